@@ -1,0 +1,190 @@
+-- How large a float expression can get. `Within x n`: x is finite, and at most n in size. A rounding keeps a whole bound up to 2 ^ prec,
+-- since such an n is a value of the format and rounding keeps the order.
+use mathlib.Core.Path.{_≡_, refl, sym, ap, _∙_, subst}
+use mathlib.Core.Logic.{inl, inr}
+use mathlib.Core.Bool.{Bool, true, false, cond, _&&_, _||_, Bool·beq, true≢false}
+use Prim.Native.Nat.{ℕ, zero, suc, _+_, _-_, _*_, _/_, _^_, _≤_, _<_, min}
+use native.Mathlib.Nat.{mul-lt-mul-of-pos-right, le-trans, le-of-eq, le-refl, le-of-lt, lt-irrefl, mul-one, one-mul, zero-mul, mul-comm, mul-assoc, mul-left-comm, mul-right-comm, add-mul, mul-pos, mul-le-mul, mul-le-mul-right, le-of-mul-le-mul-right, div-le-of-le-mul, mul-mul-mul-comm, zero-lt-suc}
+use native.Mathlib.Omega.{arith}
+use lib.Dec.{T, ltb, leb, eqb, ltb→lt, lt→ltb, eqb→eq, eqb·suc-zero, lit<, lit≤}
+use lib.IntN.{ℤ, pos, negsuc, negℤ, natAbs}
+use lib.Signed.{mag}
+use lib.Ieee.{Float, nan, inf, fin, Format, binary32, ofBits, neg, sub, prec, emax, low, up, down, unlike, odd, units, round, sum, add, mul, div, ofInt, toSigned, le, lt, eq}
+use lib.Ieee.Fits.{up-pos, down-pos, round-is}
+use lib.Ieee.Exact.{HasValue}
+use lib.Ieee.Back.{round-whole}
+use lib.Ieee.Order.{round-mono}
+
+abbrev pub Within : Float → ℕ → Type 0
+Within nan n = ⊥
+Within (inf s) n = ⊥
+Within (fin s m e) n = m * up e ≤ n * down e
+
+-- ---- the sign does not matter to `round`'s size
+odd-flip : (d : ℕ) (s : Bool) (q k l n : ℕ) → Within (odd d false q k l) n → Within (odd d s q k l) n
+unfolding odd
+odd-flip d s zero k l n h = h
+odd-flip d s (suc q) k l n h = h
+
+units-flip : (f : Format) (s : Bool) (q k n : ℕ) → Within (units f false q k) n → Within (units f s q k) n
+unfolding units
+units-flip f s q k n h = go (ltb (q * 2 ^ k) (2 ^ (low f + suc (emax f)))) h
+  where
+    go : (b : Bool) → Within (cond b (odd (suc (prec f)) false q k (low f)) (inf false)) n → Within (cond b (odd (suc (prec f)) s q k (low f)) (inf s)) n
+    go true h = odd-flip (suc (prec f)) s q k (low f) n h
+    go false h = h
+
+-- ---- not negative
+abbrev Plus : Float → Type 0
+Plus nan = ⊥
+Plus (inf s) = s ≡ false
+Plus (fin s m e) = s ≡ false
+
+odd-plus : (d q k l : ℕ) → Plus (odd d false q k l)
+unfolding odd
+odd-plus d zero k l = refl
+odd-plus d (suc q) k l = refl
+
+units-plus : (f : Format) (q k : ℕ) → Plus (units f false q k)
+unfolding units
+units-plus f q k = go (ltb (q * 2 ^ k) (2 ^ (low f + suc (emax f))))
+  where
+    go : (b : Bool) → Plus (cond b (odd (suc (prec f)) false q k (low f)) (inf false))
+    go true = odd-plus (suc (prec f)) q k (low f)
+    go false = refl
+
+-- ---- what is at most a whole number
+or-le : (a b : ℕ) → T (ltb a b || (eqb a b && true)) → a ≤ b
+or-le a b t = go (ltb a b) (eqb a b) (ltb→lt a b) (eqb→eq a b) t
+  where
+    go : (x y : Bool) → (T x → a < b) → (T y → a ≡ b) → T (x || (y && true)) → a ≤ b
+    go true y f g t = le-of-lt (f tt)
+    go false true f g t = le-of-eq (g tt)
+    go false false f g t = absurd t
+
+cross : (a e b d n : ℕ) → 0 < d → a * d ≤ b * e → b * 1 ≡ n * d → a ≤ n * e
+cross a e b d n D h v =
+    let w : b * e ≡ n * e * d = ap (λ (x : ℕ). x * e) (sym (mul-one b) ∙ v) ∙ mul-right-comm n d e in
+    le-of-mul-le-mul-right (le-trans h (le-of-eq w)) D
+
+le-within : (x y : Float) (n : ℕ) → Plus x → T (le x y) → HasValue y false n 1 → Within x n
+unfolding le lt eq
+le-within nan y n p t v = p
+le-within (inf s) nan n p t v = v
+le-within (inf s) (inf r) n p t v = v
+le-within (inf true) (fin r k d) n p t v = absurd (true≢false p)
+le-within (inf false) (fin r k d) n p t v = t
+le-within (fin s m e) nan n p t v = absurd v
+le-within (fin s m e) (inf r) n p t v = absurd v
+le-within (fin true m e) (fin r k d) n p t v = absurd (true≢false p)
+le-within (fin false m e) (fin true k d) n p t v = absurd (true≢false (v .0))
+le-within (fin false m e) (fin false k d) n p t v = cross (m * up e) (down e) (k * up d) (down d) n (down-pos d) (or-le (m * up e * down d) (k * up d * down e) t) (v .1)
+
+pub round-within : (f : Format) (s : Bool) (a c n : ℕ) → 0 < c → a ≤ n * c → n ≤ 2 ^ prec f → Within (round f s a c) n
+round-within f s a c n C h k =
+    let t = round-mono f a c n 1 C (zero-lt-suc 0) (le-trans (le-of-eq (mul-one a)) h) in
+    let p : Plus (round f false a c) = rw (round-is f false a c) (units-plus f _ _) in
+    let w : Within (round f false a c) n = le-within (round f false a c) (round f false n 1) n p t (round-whole f false n k) in
+    rw (round-is f s a c) (units-flip f s _ _ n (rw (round-is f false a c) at w))
+
+-- ---- the operations
+pub ofInt-within : (f : Format) (z : ℤ) → natAbs z ≤ 2 ^ prec f → Within (ofInt f z) (natAbs z)
+unfolding ofInt
+ofInt-within f (pos n) h = round-within f false n 1 n (zero-lt-suc 0) (le-of-eq (sym (mul-one n))) h
+ofInt-within f (negsuc n) h = round-within f true (suc n) 1 (suc n) (zero-lt-suc 0) (le-of-eq (sym (mul-one (suc n)))) h
+
+pub mul-within : (f : Format) (x y : Float) (a b : ℕ) → Within x a → Within y b → a * b ≤ 2 ^ prec f → Within (mul f x y) (a * b)
+unfolding mul
+mul-within f nan y a b p q h = p
+mul-within f (inf s) y a b p q h = absurd p
+mul-within f (fin s m e) nan a b p q h = q
+mul-within f (fin s m e) (inf t) a b p q h = absurd q
+mul-within f (fin s m e) (fin t n d) a b p q h =
+    round-within f (unlike s t) (m * up e * (n * up d)) (down e * down d) (a * b) (mul-pos (down-pos e) (down-pos d))
+    (le-trans (mul-le-mul p q) (le-of-eq (mul-mul-mul-comm a (down e) b (down d)))) h
+
+cond-within : (t : Bool) (x y : Float) (n : ℕ) → Within x n → Within y n → Within (cond t x y) n
+cond-within true x y n p q = p
+cond-within false x y n p q = q
+
+pub add-within : (f : Format) (x y : Float) (a b : ℕ) → Within x a → Within y b → a + b ≤ 2 ^ prec f → Within (add f x y) (a + b)
+unfolding add sum
+add-within f nan y a b p q h = p
+add-within f (inf s) y a b p q h = absurd p
+add-within f (fin s m e) nan a b p q h = q
+add-within f (fin s m e) (inf t) a b p q h = absurd q
+add-within f (fin s m e) (fin t n d) a b p q h =
+    let A = m * up e * down d in
+    let B = n * up d * down e in
+    let C = down e * down d in
+    let cp : 0 < C = mul-pos (down-pos e) (down-pos d) in
+    let x : A ≤ a * C = le-trans (mul-le-mul-right (down d) p) (le-of-eq (mul-assoc a (down e) (down d))) in
+    let y : B ≤ b * C = le-trans (mul-le-mul-right (down e) q) (le-of-eq (mul-assoc b (down d) (down e) ∙ ap (λ (z : ℕ). b * z) (mul-comm (down d) (down e)))) in
+    let z : (a + b) * C ≡ a * C + b * C = add-mul a b C in
+    cond-within (Bool·beq s t) _ _ (a + b) (round-within f s (A + B) C (a + b) cp (omega arith) h)
+    (cond-within (ltb A B) _ _ (a + b) (round-within f t (B - A) C (a + b) cp (omega arith) h) (round-within f (s && ltb B A) (A - B) C (a + b) cp (omega arith) h))
+
+-- a whole number by another that is no smaller
+pub div-within : (f : Format) (x y : Float) (j l : ℕ) → HasValue x false j 1 → HasValue y false l 1 → j ≤ l → 0 < l → 1 ≤ 2 ^ prec f → Within (div f x y) 1
+unfolding div
+div-within f nan y j l p q h k o = absurd p
+div-within f (inf s) y j l p q h k o = absurd p
+div-within f (fin s m e) nan j l p q h k o = absurd q
+div-within f (fin s m e) (inf t) j l p q h k o = absurd q
+div-within f (fin s m e) (fin t zero d) j l p q h k o = let z = mul-pos k (down-pos d) in let y = zero-mul (up d) in let v = q .1 in absurd (omega arith)
+div-within f (fin s m e) (fin t (suc n) d) j l p q h k o =
+    let a : m * up e ≡ j * down e = sym (mul-one (m * up e)) ∙ p .1 in
+    let b : suc n * up d ≡ l * down d = sym (mul-one (suc n * up d)) ∙ q .1 in
+    let g : m * up e * down d ≤ 1 * (suc n * up d * down e) = rw (a, b, one-mul (l * down d * down e)) (le-trans (mul-le-mul-right (down d) (mul-le-mul-right (down e) h)) (le-of-eq (mul-right-comm l (down e) (down d)))) in
+    rw (eqb·suc-zero n) (round-within f (unlike s t) (m * up e * down d) (suc n * up d * down e) 1 (mul-pos (mul-pos (zero-lt-suc n) (up-pos d)) (down-pos e)) g o)
+
+-- ---- cut toward zero
+cut-le : (a d n : ℕ) → 0 < d → a ≤ n * d → a / d ≤ n
+cut-le a d n D h = div-le-of-le-mul d (le-trans h (le-of-eq (mul-comm n d)))
+
+either-mag : (t : Bool) (a b : ℕ) (n : ℕ) → a ≤ n → b ≤ n → mag (cond t (negℤ (pos a)) (pos b)) ≤ n
+either-mag true zero b n h k = omega arith
+either-mag true (suc a) b n h k = omega arith
+either-mag false a b n h k = k
+
+pub toSigned-within : (h : ℕ) (x : Float) (n : ℕ) → Within x n → mag (toSigned h x) ≤ n
+unfolding toSigned
+toSigned-within h nan n p = absurd p
+toSigned-within h (inf s) n p = absurd p
+toSigned-within h (fin s m e) n p =
+    let c = cut-le (m * up e) (down e) n (down-pos e) p in
+    either-mag s (min (m * up e / down e) (2 ^ h)) (min (m * up e / down e) (2 ^ h - 1)) n (omega arith) (omega arith)
+
+-- ---- what `truncating_f32_to_i64` asks
+or-l : (a b : Bool) → T a → T (a || b)
+or-l true b t = tt
+or-l false b t = absurd t
+
+pub in-i64 : (x : Float) (n : ℕ) → Within x n → n < 2 ^ 63 → T (le (fin true 1 (pos 63)) x) × T (lt x (fin false 1 (pos 63)))
+unfolding le lt eq
+in-i64 nan n p h = absurd p
+in-i64 (inf s) n p h = absurd p
+in-i64 (fin true m e) n p h =
+    let d = down-pos e in
+    let k : n * down e < 2 ^ 63 * down e = mul-lt-mul-of-pos-right h d in
+    (or-l (ltb (m * up e * 1) (1 * 2 ^ 63 * down e)) _ (lt→ltb (m * up e * 1) (1 * 2 ^ 63 * down e) (omega arith)), lt→ltb 0 (m * up e * 1 + 1 * 2 ^ 63 * down e) (omega arith))
+in-i64 (fin false m e) n p h =
+    let d = down-pos e in
+    let k : n * down e < 2 ^ 63 * down e = mul-lt-mul-of-pos-right h d in
+    (or-l (ltb 0 (1 * 2 ^ 63 * down e + m * up e * 1)) _ (lt→ltb 0 (1 * 2 ^ 63 * down e + m * up e * 1) (omega arith)), lt→ltb (m * up e * 1) (1 * 2 ^ 63 * down e) (omega arith))
+
+-- ---- negation and difference
+pub neg-within : (x : Float) (n : ℕ) → Within x n → Within (neg x) n
+unfolding neg
+neg-within nan n h = h
+neg-within (inf s) n h = h
+neg-within (fin s m e) n h = h
+
+pub sub-within : (f : Format) (x y : Float) (a b : ℕ) → Within x a → Within y b → a + b ≤ 2 ^ prec f → Within (sub f x y) (a + b)
+unfolding sub
+sub-within f x y a b p q h = add-within f x (neg y) a b p (neg-within y b q) h
+
+-- a literal: 1.5 is at most 2
+literal : Within (ofBits binary32 0x3fc0_0000) 2
+unfolding ofBits
+literal = lit≤ tt

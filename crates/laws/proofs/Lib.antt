@@ -1,0 +1,14 @@
+pub mod Signed
+pub mod Bias
+pub mod Bits
+pub mod Floats
+pub mod Tests
+pub mod Over
+pub mod Rows
+pub mod Compact
+pub mod Taking
+pub mod Order
+pub mod Sorting
+pub mod Reversing
+pub mod Merging
+pub mod Ranges

@@ -1,0 +1,24 @@
+-- Signed numbers by size, as the stable sort asks it of an order: one way only, and `not after` goes through.
+use mathlib.Core.Bool.{Bool, true, false}
+use mathlib.Core.Path.{_≡_, refl, sym, ap, _∙_}
+use native.Mathlib.Omega.{arith}
+use lib.IntN.{ℤ, pos, negsuc}
+use lib.Signed.{ltZ}
+use borrow.Author.Tests.{ltb-true, ltb-false, lt-ltb, le-ltb}
+
+pub ltZ-asym : (a b : ℤ) → ltZ a b ≡ true → ltZ b a ≡ false
+ltZ-asym (pos a) (pos b) h = le-ltb b a (let k = ltb-true a b h in omega arith)
+ltZ-asym (pos a) (negsuc b) h = cc
+ltZ-asym (negsuc a) (pos b) h = refl
+ltZ-asym (negsuc a) (negsuc b) h = le-ltb a b (let k = ltb-true b a h in omega arith)
+
+-- a ≤ b ≤ c
+pub nltZ-trans : (a b c : ℤ) → ltZ b a ≡ false → ltZ c b ≡ false → ltZ c a ≡ false
+nltZ-trans (pos a) (pos b) (pos c) h k = le-ltb c a (let p = ltb-false b a h in let q = ltb-false c b k in omega arith)
+nltZ-trans (pos a) (pos b) (negsuc c) h k = k
+nltZ-trans (pos a) (negsuc b) (pos c) h k = cc
+nltZ-trans (pos a) (negsuc b) (negsuc c) h k = h
+nltZ-trans (negsuc a) (pos b) (pos c) h k = refl
+nltZ-trans (negsuc a) (pos b) (negsuc c) h k = cc
+nltZ-trans (negsuc a) (negsuc b) (pos c) h k = refl
+nltZ-trans (negsuc a) (negsuc b) (negsuc c) h k = le-ltb a c (let p = ltb-false a b h in let q = ltb-false b c k in omega arith)

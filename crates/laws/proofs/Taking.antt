@@ -1,0 +1,74 @@
+-- The two loops that compact a list of records in place and clear what is left, over any way to read a slice as records.
+use mathlib.Core.Bool.{Bool, true, false}
+use mathlib.Core.Path.{_≡_, refl, sym, ap, _∙_, subst}
+use mathlib.Core.List.{List, [], _∷_, _++_}
+use Prim.Native.Nat.{ℕ, _+_, _-_, _≤_, _<_}
+use native.Mathlib.Omega.{arith}
+use lib.ListN.{length, getD, set, take, drop}
+use lib.Seq.{length-take-le}
+use Rattle.laws.specs.Lists.{without, putFirst}
+use Rattle.laws.proofs.Compact.{kept, kept-le, kept-drop, compact, compact-read, compact-drop, compact-keep, counted-drop, counted-keep, cleared, cleared-none, cleared-more, compact-clear}
+
+module _ {A R : Type 0} (rd : List A → List R) (z : R) where
+  -- the first i of l₀ are passed, and l has the n that are kept of them in front
+  pub record Compacting (out : R → Bool) (l₀ l : List A) (count i n : ℕ) : Type 0 where
+    pub within : i ≤ count
+    pub long : length l ≡ length l₀
+    pub counted : n ≡ length (kept out z (rd l₀) i)
+    pub sofar : rd l ≡ compact out z (rd l₀) i
+
+  -- records n to k of l₁ are cleared
+  pub record Clearing (l₁ l : List A) (count n k : ℕ) : Type 0 where
+    pub from : n ≤ k
+    pub within : k ≤ count
+    pub long : length l ≡ length l₁
+    pub sofar : rd l ≡ cleared z (rd l₁) (take n (rd l₁)) k
+
+  module _ (out : R → Bool) (l₀ l : List A) (count i n : ℕ) (v : Compacting out l₀ l count i n) (fit : count ≤ length (rd l₀)) where
+    pub n-le : n ≤ i
+    n-le = let a = kept-le out z (rd l₀) i (omega arith) in omega arith
+
+    module _ (inside : i < count) (e : R) (read : e ≡ getD (rd l) i z) (t : Bool) (asked : t ≡ out e) where
+      told : out (getD (rd l₀) i z) ≡ t
+      told = sym (asked ∙ ap out (read ∙ ap (λ (x : List R). getD x i z) (v .sofar) ∙ compact-read out z (rd l₀) i (omega arith)))
+
+      pub step-drop : t ≡ true → Compacting out l₀ l count (i + 1) n
+      step-drop y =
+          record {
+            within = omega arith;
+            long = v .long;
+            counted = counted-drop out z (rd l₀) i n (omega arith) (told ∙ y) (v .counted);
+            sofar = v .sofar ∙ sym (compact-drop out z (rd l₀) i (omega arith) (told ∙ y));
+          }
+
+      pub step-keep : t ≡ false → (l′ : List A) → length l′ ≡ length l → rd l′ ≡ set (rd l) n e → Compacting out l₀ l′ count (i + 1) (n + 1)
+      step-keep y l′ le w =
+          let e′ : e ≡ getD (rd l₀) i z = read ∙ ap (λ (x : List R). getD x i z) (v .sofar) ∙ compact-read out z (rd l₀) i (omega arith) in
+          record {
+            within = omega arith;
+            long = le ∙ v .long;
+            counted = counted-keep out z (rd l₀) i n (omega arith) (told ∙ y) (v .counted);
+            sofar = w ∙ rw (v .sofar, e′, v .counted) (compact-keep out z (rd l₀) i (omega arith) (told ∙ y));
+          }
+
+    pub finish : count ≤ i → (l′ : List A) (k : ℕ) → count ≤ k → Clearing l l′ count n k → rd l′ ≡ putFirst z count (without out (take count (rd l₀))) (rd l₀)
+    finish past l′ k done w =
+        let ei : i ≡ count = omega arith in
+        let ek : k ≡ count = omega arith in
+        let c : n ≡ length (kept out z (rd l₀) count) = rw ei at (v .counted) in
+        let s : rd l ≡ compact out z (rd l₀) count = rw ei at (v .sofar) in
+        let q : rd l′ ≡ cleared z (rd l) (take n (rd l)) count = rw ek at (w .sofar) in
+        q ∙ rw (s, c) (compact-clear out z (rd l₀) count fit)
+
+  pub clear-none : (l : List A) (count n : ℕ) → n ≤ count → n ≤ length (rd l) → Clearing l l count n n
+  clear-none l count n h m = record { from = omega arith; within = h; long = refl; sofar = cleared-none z (rd l) n m }
+
+  pub clear-more : (l₁ l l′ : List A) (count n k : ℕ) → Clearing l₁ l count n k → k < count → count ≤ length (rd l₁) → length l′ ≡ length l → rd l′ ≡ set (rd l) k z → Clearing l₁ l′ count n (k + 1)
+  clear-more l₁ l l′ count n k v h fit le w =
+      let t = length-take-le n (rd l₁) (omega arith) in
+      record {
+        from = omega arith;
+        within = omega arith;
+        long = le ∙ v .long;
+        sofar = w ∙ rw (v .sofar) (cleared-more z (rd l₁) (take n (rd l₁)) k (omega arith) (omega arith));
+      }

@@ -1,0 +1,33 @@
+-- Words for lists and for the counted part of a table, over any element.
+use mathlib.Core.Bool.{Bool, true, false, _&&_}
+use mathlib.Core.List.{List, [], _∷_, _++_}
+use Prim.Native.Nat.{ℕ, _-_, max}
+use lib.Dec.{leb}
+use lib.ListN.{length, take, drop, replicate}
+
+module _ {A : Type 0} where
+  -- p holds of every element
+  unfoldable pub all : (A → Bool) → List A → Bool
+  all p [] = true
+  all p (x ∷ xs) = p x && all p xs
+
+  -- at most `most` count, and p holds of those that do
+  unfoldable pub counted : ℕ → ℕ → (A → Bool) → List A → Bool
+  counted n most p l = leb n most && all p (take n l)
+
+  abbrev pub unless : Bool → A → List A → List A
+  unless true x xs = xs
+  unless false x xs = x ∷ xs
+
+  -- those of which `out` does not hold, in order
+  abbrev pub without : (A → Bool) → List A → List A
+  without out [] = []
+  without out (x ∷ xs) = unless (out x) x (without out xs)
+
+  -- a counted list whose first n become `now`: places that fall vacant are z, those past both stay
+  abbrev pub putFirst : A → ℕ → List A → List A → List A
+  putFirst z n now l = now ++ (replicate (n - length now) z ++ drop (max n (length now)) l)
+
+  -- l with the first i of v laid over its front
+  abbrev pub over : List A → List A → ℕ → List A
+  over l v i = take i v ++ drop i l

@@ -1,0 +1,3 @@
+pub mod Ranges
+pub mod Random
+pub mod Limits
