@@ -17,6 +17,10 @@ layerLimit = 16
 abbrev pub cycleWrites : ℕ
 cycleWrites = 10000
 
+-- 01, "Numbers a caller may hand in": the budget's maximum and bytes used are at most 67,108,864
+abbrev pub byteLimit : ℕ
+byteLimit = 67108864
+
 -- 01, "What comes across": a controller's or a bend's event counts 8 bytes
 abbrev pub valueBytes : ℕ
 valueBytes = 8

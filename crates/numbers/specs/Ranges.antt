@@ -5,6 +5,7 @@ use lib.Dec.{leb}
 use lib.IntN.{ℤ, pos, negsuc}
 use lib.Signed.{leZ}
 use Rattle.laws.specs.Integers.{inside, sized}
+use Rattle.numbers.specs.Limits.{byteLimit}
 
 -- times, cuts and `until`: within ±2^40
 unfoldable pub isTime : ℤ → Bool
@@ -54,6 +55,6 @@ isTimebase z = inside (pos 1) (pos 32767) z
 unfoldable pub isWord : ℤ → Bool
 isWord z = inside (negsuc (2 ^ 31 - 1)) (pos (2 ^ 31 - 1)) z
 
--- the budget's maximum and bytes used: 0 to 67,108,864
+-- the budget's maximum and bytes used
 unfoldable pub isBytes : ℕ → Bool
-isBytes n = leb n 67108864
+isBytes n = leb n byteLimit

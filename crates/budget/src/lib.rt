@@ -1,0 +1,135 @@
+// The budget: the random seed and the bytes that events may take, in one record that every write is handed and
+// hands back, advanced. A write first steps the seed, then asks for its bytes; one that does not fit sets the
+// flag `over` and takes none. Nothing here asks anything of the record: `budget_ok` tests one that comes from outside.
+ghost use mathlib.Core.Path.{_≡_};
+ghost use Prim.Native.Nat.{_<_, _^_};
+ghost use lib.Signed.{mag};
+ghost use Rattle.numbers.specs.Limits.{valueBytes};
+ghost use Rattle.budget.specs.Budgets.{unspent, okBudget, free, room, stepBudget, stepped, fits, reserved, rolled};
+
+// `used` may exceed `maximum`; `over` is 1 once a write did not fit, else 0.
+#[repr(C)]
+pub struct Budget {
+    pub seed: u32,
+    pub maximum: u32,
+    pub used: u32,
+    pub over: u32,
+}
+
+// What asking for bytes gives.
+pub struct Reserved {
+    pub budget: Budget,
+    pub fits: bool,
+}
+
+// A value that random moved, and the budget after it.
+pub struct Rolled {
+    pub value: i64,
+    pub budget: Budget,
+}
+
+impl Budget {
+    // Nothing used yet, the flag clear.
+    pub fn new(seed: u32, maximum: u32) -> Budget
+        ensures { λ r. ⌜ r ≡ unspent seed maximum ⌝ }
+    {
+        Budget {
+            seed: seed,
+            maximum: maximum,
+            used: 0,
+            over: 0,
+        }
+    }
+}
+
+// Whether maximum, bytes used and flag are within their ranges.
+pub fn budget_ok(b: Budget) -> bool
+    ensures { λ r. ⌜ r ≡ okBudget b ⌝ }
+{
+    numbers::is_bytes(b.maximum) & numbers::is_bytes(b.used) & (b.over <= 1)
+}
+
+// The bytes left: maximum less used, at least 0.
+pub fn free_bytes(b: Budget) -> u32
+    ensures { λ r. ⌜ r ≡ free b ⌝ }
+{
+    if b.used <= b.maximum {
+        return b.maximum - b.used;
+    }
+    0
+}
+
+// How many controllers' or bends' events still fit.
+pub fn remaining_event_capacity(b: Budget) -> u32
+    ensures { λ r. ⌜ r ≡ room valueBytes b ⌝ }
+{
+    free_bytes(b) / 8
+}
+
+// How many steps a run of writes may take: one more than fit, so that it finds out that the budget is spent.
+pub fn safe_iteration_limit(b: Budget) -> u32
+    ensures { λ r. ⌜ r ≡ stepBudget b ⌝ }
+{
+    remaining_event_capacity(b) + 1
+}
+
+// The budget with its seed stepped once.
+pub fn step_seed(b: Budget) -> Budget
+    ensures { λ r. ⌜ r ≡ stepped b ⌝ }
+{
+    let seed = numbers::next_rand(b.seed);
+    Budget {
+        seed: seed,
+        maximum: b.maximum,
+        used: b.used,
+        over: b.over,
+    }
+}
+
+// `value` moved by random over `width`, and the budget with its seed stepped. A width of 0 or less gives the
+// value and leaves the seed.
+pub fn calc_rand_value(b: Budget, value: i64, width: i64) -> Rolled
+    requires { ⌜ (mag value < 2 ^ 40) × (mag width < 2 ^ 40) ⌝ }
+    ensures { λ r. ⌜ r ≡ rolled value width b ⌝ }
+{
+    if width <= 0 {
+        return Rolled {
+            value: value,
+            budget: b,
+        };
+    }
+    let next = step_seed(b);
+    let v = numbers::spread(value, width, next.seed);
+    Rolled {
+        value: v,
+        budget: next,
+    }
+}
+
+// Asks for `size` bytes: where they fit they are used, where not the flag is set and nothing is used.
+pub fn reserve_event(b: Budget, size: u32) -> Reserved
+    ensures { λ r. ⌜ (r .budget ≡ reserved size b) × (r .fits ≡ fits size b) ⌝ }
+{
+    if size <= free_bytes(b) {
+        let after = Budget {
+            seed: b.seed,
+            maximum: b.maximum,
+            used: b.used + size,
+            over: b.over,
+        };
+        return Reserved {
+            budget: after,
+            fits: true,
+        };
+    }
+    let after = Budget {
+        seed: b.seed,
+        maximum: b.maximum,
+        used: b.used,
+        over: 1,
+    };
+    Reserved {
+        budget: after,
+        fits: false,
+    }
+}
