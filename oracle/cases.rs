@@ -1,0 +1,178 @@
+// Document 01's cases, "Both sides of a line", asked of the original: each is a short script in text, and lines that its last call must print in full mode. And the sines,
+// whose values document 01 takes from a table of its own: how far the original's stand from it.
+
+use crate::calls;
+use crate::desk::{records_of, Desk};
+use crate::dice::Dice;
+use crate::original::*;
+use crate::script::from_text;
+use crate::show;
+use crate::sine::{write_sine, Quarter};
+use std::io::{Result, Write};
+
+struct Case {
+    says: &'static str,
+    script: String,
+    prints: &'static [&'static str],
+}
+
+fn case(says: &'static str, script: &str, prints: &'static [&'static str]) -> Case {
+    Case { says, script: script.replace("; ", "\n"), prints }
+}
+
+/// A list of so many ones.
+fn ones(count: usize) -> String {
+    format!("{count}{}", " 1".repeat(count))
+}
+
+fn cases() -> Vec<Case> {
+    let sixteen: String = (0..16).map(|target| format!("703 {target} 1 5; ")).collect();
+    let two = "904 2 0 0 7 90 0 0 0; 904 2 10 0 7 100 0 0 0";
+    vec![
+        case("Seed 1 steps to 270369; value 64, random 10 gives 68", "202 1 64 10", &["202 0 68 270369"]),
+        case("Seed 0 stays 0; value 64, random 10 gives 59", "202 0 64 10", &["202 0 59 0"]),
+        case("Bend 0 with 64: 8192", "606 128 0 64", &["E 1 3 0 0 8192 0 0 0"]),
+        case("Bend 0 with 255: 32,639", "606 128 0 255", &["E 1 3 0 0 32639 0 0 0"]),
+        case("Bend 1 with -8192: 0", "606 129 0 -8192", &["E 1 3 0 0 0 0 0 0"]),
+        case("Bend 1 with 0: 8192", "606 129 0 0", &["E 1 3 0 0 8192 0 0 0"]),
+        case("Curve (0,127,96) at 48: 63, as a parameter's value", "404 0 0 3 0 127 96; 407 0 48 5", &["407 0 63"]),
+        case("Curve (0,-127,96) at 48: -63, as a parameter's value", "404 0 0 3 0 -127 96; 407 0 48 5", &["407 0 -63"]),
+        case("Curve (0,127,96) at 48: 63, written", "804 48; 607 7 3 0 127 96", &["E 2 2 0 0 7 0 0 0 2 48 0 7 63 0 0"]),
+        case("Curve (0,-127,96) at 48: -63, written on the wide bend", "805 48; 607 129 3 0 -127 96", &["E 2 3 0 0 8192 0 0 0 3 48 0 8129 0 0 0"]),
+        case(
+            "Curve (0,100,12), frequency 4, maximum 88: 0, 33, 66 at 0, 4, 8, flag clear",
+            "903 1 88 0 0; 804 4; 607 7 3 0 100 12",
+            &["607 0", "E 3 2 0 0 7 0 0 0 2 4 0 7 33 0 0 2 8 0 7 66 0 0", "B 1 88 24 0"],
+        ),
+        case(
+            "Maximum 87: same events, flag set",
+            "903 1 87 0 0; 804 4; 607 7 3 0 100 12",
+            &["607 0", "E 3 2 0 0 7 0 0 0 2 4 0 7 33 0 0 2 8 0 7 66 0 0", "B 1 87 24 1"],
+        ),
+        case(
+            "Expand lengths 3,3,4 to 7: 2,2,3",
+            "804 1; 603 7 1; 704 7 1 9 10 10 3 20 20 3 30 30 4; 802 7; 708 0",
+            &["708 0", "E 7 2 0 0 7 10 0 0 2 1 0 7 10 0 0 2 2 0 7 20 0 0 2 3 0 7 20 0 0 2 4 0 7 30 0 0 2 5 0 7 30 0 0 2 6 0 7 30 0 0"],
+        ),
+        case(
+            "Lengths 8,0 to 15: 15,0",
+            "804 7; 603 7 1; 704 7 1 6 10 10 8 20 20 0; 802 15; 708 0",
+            &["708 0", "E 3 2 0 0 7 10 0 0 2 7 0 7 10 0 0 2 14 0 7 10 0 0"],
+        ),
+        case(
+            "Cycle 24 with 10,20,30 from 0, until 100: 0, 24, 48, 72, 96 with 10,20,30,10,20",
+            "706 7 24 16 3 10 20 30; 709 100 16",
+            &["709 0", "E 5 2 0 0 7 10 0 0 2 24 0 7 20 0 0 2 48 0 7 30 0 0 2 72 0 7 10 0 0 2 96 0 7 20 0 0", "C 1 7 24 120 2 3 10 20 30"],
+        ),
+        case(
+            "Maximum 16: two written, the one at 48 lost, next 72",
+            "903 1 16 0 0; 706 7 24 16 3 10 20 30; 709 100 16",
+            &["709 0", "E 2 2 0 0 7 10 0 0 2 24 0 7 20 0 0", "B 1 16 16 1", "C 1 7 24 72 0 3 10 20 30"],
+        ),
+        case("CC7=90 at 0, CC7=100 at 10, cut at 10: list order 100, 90", &format!("{two}; 309 10"), &["E 2 2 0 0 7 100 0 0 2 0 0 7 90 0 0"]),
+        case("Full cut: 90, 100", &format!("{two}; 310 10"), &["E 2 2 0 0 7 90 0 0 2 0 0 7 100 0 0"]),
+        case("96 numbers accepted", &format!("607 7 {}", ones(96)), &["607 0"]),
+        case("97 give 3", &format!("607 7 {}", ones(97)), &["607 3"]),
+        case("Sixteen targets kept, a seventeenth gives 6", &format!("{sixteen}703 16 1 5"), &["703 6"]),
+        case("A kept one set again gives 0", &format!("{sixteen}703 3 1 5"), &["703 0"]),
+        case(
+            "The tape's example: a curve and a cycle",
+            "607 7 3 0 100 12; 706 11 24 16 3 10 20 30; 709 30 16",
+            &["E 5 2 0 0 7 0 0 0 2 4 0 7 33 0 0 2 8 0 7 66 0 0 2 0 0 11 10 0 0 2 24 0 11 20 0 0", "B 1 80000 40 0"],
+        ),
+    ]
+}
+
+/// What the last call of a script prints, in full mode.
+fn last_print(script: &str) -> String {
+    let (mut desk, quarter) = (Desk::first(), Quarter::new());
+    desk.full = true;
+    let prints = from_text(script).into_iter().map(|step| {
+        let reply = calls::make(&mut desk, &quarter, &step);
+        show::line(&desk, &step, &reply)
+    });
+    prints.last().unwrap()
+}
+
+/// Prints each case; answers whether all came out.
+pub fn print(out: &mut impl Write) -> Result<bool> {
+    let (cases, mut right) = (cases(), 0);
+    for case in &cases {
+        let print = last_print(&case.script);
+        let missing: Vec<_> = case.prints.iter().filter(|line| !print.lines().any(|printed| printed == **line)).collect();
+        if missing.is_empty() {
+            right += 1;
+            writeln!(out, "as 01 says: {}", case.says)?;
+        } else {
+            writeln!(out, "NOT as 01 says: {}\n  wanted {missing:?} in\n{print}", case.says)?;
+        }
+    }
+    writeln!(out, "{right} of {} as document 01 says", cases.len())?;
+    Ok(right == cases.len())
+}
+
+/// A track that is about to write a sine on the wide bend, over bends that its window may reach.
+fn sine_track(frequency: isize, random: isize) -> Track {
+    let mut track = Track::new(96, 3);
+    track.pb_on_time_freq = frequency;
+    track.timepos = 50;
+    track.events = (0..8).map(|at| Event::pitch_bend(40 * at, 0, at)).collect();
+    track.update_write_opt(WriteTarget::PitchBend(1), |option| option.random = random);
+    track
+}
+
+/// The events that `write` leaves on such a track, and the budget's three numbers.
+fn sine_written(frequency: isize, random: isize, bytes: usize, write: impl FnOnce(&mut Track, &mut WriteCtx)) -> (Vec<Event>, [usize; 3]) {
+    let (mut track, mut seed) = (sine_track(frequency, random), 1);
+    let mut ctx = WriteCtx { timebase: 96, rand_seed: &mut seed, max_event_bytes: bytes, event_bytes: 0, event_limit_exceeded: false };
+    write(&mut track, &mut ctx);
+    let budget = [ctx.event_bytes, usize::from(ctx.event_limit_exceeded)];
+    (track.events, [budget[0], budget[1], seed as usize])
+}
+
+/// Writes random sines with the original and by the rule. With random 1, which adds nothing and drops nothing, each value of the original shows: none may be more than 1 away, and times and budget
+/// are equal. Where all values are equal, so is everything with random off. Answers whether it is so.
+pub fn sines(seed: u64, count: u64, out: &mut impl Write) -> Result<bool> {
+    let (mut dice, quarter) = (Dice::new(seed), Quarter::new());
+    let (mut steps, mut apart, mut most, mut whole, mut wrong) = (0, 0, 0, 0, 0);
+    let mut smallest: Option<(isize, String)> = None;
+    for _ in 0..count {
+        let [low, high] = [(); 2].map(|_| if dice.one_in(6) { dice.of(&[-16383, 16383, -8192, 0]) } else { dice.pick(-8192, 16383) } as isize);
+        let bits = dice.pick(1, 20);
+        let (len, times) = (dice.pick(1, 1 << bits) as isize, dice.pick(-1, 3) as isize);
+        let sine = OnNoteSine { target: WriteTarget::PitchBend(1), stype: SineType::from_i(dice.pick(0, 2) as isize), low, high, len, times };
+        let frequency = (len / dice.pick(100, 2000) as isize).max(1);
+        let bytes = dice.of(&[1 << 26, 1 << 26, 800, 8 * len as usize]);
+        let both = |random| {
+            let theirs = sine_written(frequency, random, bytes, |track, ctx| track.write_sine(sine.target, sine.stype, low, high, len, times, ctx));
+            let ours = sine_written(frequency, random, bytes, |track, ctx| write_sine(&quarter, track, ctx, &sine));
+            (theirs, ours)
+        };
+        let (theirs, ours) = both(1);
+        let distances: Vec<isize> = theirs.0.iter().zip(&ours.0).map(|(a, b)| (a.v1 - b.v1).abs()).collect();
+        let same_times = theirs.0.len() == ours.0.len() && theirs.0.iter().zip(&ours.0).all(|(a, b)| a.time == b.time);
+        wrong += u64::from(!same_times || theirs.1 != ours.1);
+        steps += distances.len();
+        apart += distances.iter().filter(|&&distance| distance > 0).count();
+        most = most.max(*distances.iter().max().unwrap_or(&0));
+        if let Some(at) = distances.iter().position(|&distance| distance > 0) {
+            let size = len + (high - low).abs();
+            if smallest.as_ref().is_none_or(|(least, _)| size < *least) {
+                let (a, b, step) = (theirs.0[at].v1 - 8192, ours.0[at].v1 - 8192, theirs.0[at].time - 50);
+                smallest = Some((size, format!("{:?} {low} to {high}, length {len}, step {step}: the original {a}, the rule {b}", sine.stype)));
+            }
+        }
+        // Below -8192 the clamp hides a value, but not whether it is dropped.
+        if low.min(high) >= -8192 && distances.iter().all(|&distance| distance == 0) {
+            let (theirs, ours) = both(0);
+            let equal = records_of(&theirs.0) == records_of(&ours.0) && theirs.1 == ours.1;
+            whole += 1;
+            wrong += u64::from(!equal);
+        }
+    }
+    writeln!(out, "{count} sines, {steps} values: largest distance {most}, {apart} not equal; {whole} compared with dropping; {wrong} with other times, budget or drops")?;
+    if let Some((_, input)) = smallest {
+        writeln!(out, "the smallest that differs: {input}")?;
+    }
+    Ok(most <= 1 && wrong == 0)
+}

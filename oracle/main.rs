@@ -1,0 +1,86 @@
+// The original, asked by scripts of calls: the other half of every comparison. docs/COMPARING.md says what a script is and how each command is run.
+//
+//     oracle run < script           a line, or lines, after each call
+//     oracle make SEED COUNT FAMILIES > script
+//     oracle text < script          one call a line; `oracle binary < text` goes back
+//     oracle cases                  document 01's cases that need only the original
+//     oracle sines SEED COUNT       document 01's sine values beside the original's
+
+#[path = "../target/oracle/original.rs"]
+mod original;
+
+mod calls;
+mod cases;
+mod cut;
+mod desk;
+mod dice;
+mod make;
+mod poke;
+mod private;
+mod rules;
+mod script;
+mod show;
+mod sine;
+mod spoil;
+mod stand_ins;
+mod table;
+
+use std::io::{stdin, stdout, BufWriter, Read, Result, Write};
+
+fn main() -> Result<()> {
+    let words: Vec<String> = std::env::args().skip(1).collect();
+    let words: Vec<&str> = words.iter().map(String::as_str).collect();
+    let mut out = BufWriter::new(stdout().lock());
+    match words[..] {
+        ["run"] => run(&mut out)?,
+        ["make", seed, count, families] => {
+            let steps = make::script(number(seed), number(count) as usize, &make::families(families));
+            script::write(&steps, &mut out)?;
+        }
+        ["text"] => {
+            for step in script::read(&mut stdin())? {
+                writeln!(out, "{}", step.text())?;
+            }
+        }
+        ["binary"] => {
+            let mut text = String::new();
+            stdin().read_to_string(&mut text)?;
+            script::write(&script::from_text(&text), &mut out)?;
+        }
+        ["cases"] => {
+            let all = cases::print(&mut out)?;
+            out.flush()?;
+            std::process::exit(i32::from(!all));
+        }
+        ["sines", seed, count] => {
+            let near = cases::sines(number(seed), number(count), &mut out)?;
+            out.flush()?;
+            std::process::exit(i32::from(!near));
+        }
+        _ => {
+            eprintln!("oracle run | make SEED COUNT FAMILIES | text | binary | cases | sines SEED COUNT");
+            std::process::exit(2);
+        }
+    }
+    out.flush()
+}
+
+fn number(word: &str) -> u64 {
+    word.parse().unwrap_or_else(|_| panic!("no number: {word}"))
+}
+
+/// Makes every call of the script on standard input. A call on which the original panics is named before the program ends.
+fn run(out: &mut impl Write) -> Result<()> {
+    let quarter = sine::Quarter::new();
+    let mut desk = desk::Desk::first();
+    for (at, step) in script::read(&mut stdin())?.iter().enumerate() {
+        let made = std::panic::catch_unwind(std::panic::AssertUnwindSafe(|| calls::make(&mut desk, &quarter, step)));
+        let Ok(reply) = made else {
+            out.flush()?;
+            eprintln!("oracle: panic at call {at}: {}", step.text());
+            std::process::exit(101);
+        };
+        writeln!(out, "{}", show::line(&desk, step, &reply))?;
+    }
+    Ok(())
+}
