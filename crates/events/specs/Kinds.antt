@@ -1,5 +1,5 @@
 -- The nine kinds of event in the Rust's order, NoteOn 0 to DirectSMF 8, and what each kind is given.
-use mathlib.Core.Bool.{Bool, true, false, cond, _||_}
+use mathlib.Core.Bool.{Bool, cond, _||_}
 use Prim.Native.Nat.{ℕ, _+_}
 use lib.IntN.{ℤ, pos}
 use Rattle.laws.specs.Integers.{eqZ, inside, cut}

@@ -137,3 +137,13 @@ module _ {R : Type 0} where
   put-one z e n rs all =
       ap (λ (x : List R). putFirst z (length rs) (x ++ (e ∷ [])) (putFirst z n rs all)) (take-append-seam rs (replicate (n - length rs) z ++ drop (max n (length rs)) all))
       ∙ put-again z n rs (e ∷ []) all
+
+  -- a list cleared up to k is one whose first k were put
+  pub cleared-put : (z : R) (l p : List R) (k : ℕ) → length p ≤ k → cleared z l p k ≡ putFirst z k p l
+  cleared-put z l p k h = let m : max k (length p) ≡ k = omega arith in rw m
+
+  -- a record put where it stands
+  pub set-own : (z : R) (l : List R) (i : ℕ) → set l i (getD l i z) ≡ l
+  set-own z [] i = refl
+  set-own z (x ∷ l) zero = refl
+  set-own z (x ∷ l) (suc i) = ap (λ (r : List R). x ∷ r) (set-own z l i)

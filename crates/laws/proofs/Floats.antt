@@ -188,3 +188,9 @@ sub-within f x y a b p q h = add-within f x (neg y) a b p (neg-within y b q) h
 literal : Within (ofBits binary32 0x3fc0_0000) 2
 unfolding ofBits
 literal = lit≤ tt
+
+-- a bound may be widened
+pub within-more : (x : Float) {n m : ℕ} → Within x n → n ≤ m → Within x m
+within-more nan p h = p
+within-more (inf s) p h = p
+within-more (fin s k e) p h = le-trans p (mul-le-mul-right (down e) h)

@@ -11,4 +11,8 @@ pub mod Order
 pub mod Sorting
 pub mod Reversing
 pub mod Merging
+pub mod Stable
 pub mod Ranges
+pub mod Sizes
+pub mod Ends
+pub mod Zeros

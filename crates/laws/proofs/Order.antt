@@ -22,3 +22,7 @@ nltZ-trans (negsuc a) (pos b) (pos c) h k = refl
 nltZ-trans (negsuc a) (pos b) (negsuc c) h k = cc
 nltZ-trans (negsuc a) (negsuc b) (pos c) h k = refl
 nltZ-trans (negsuc a) (negsuc b) (negsuc c) h k = le-ltb a c (let p = ltb-false a b h in let q = ltb-false b c k in omega arith)
+
+pub ltZ-irrefl : (a : ℤ) → ltZ a a ≡ false
+ltZ-irrefl (pos a) = le-ltb a a (omega arith)
+ltZ-irrefl (negsuc a) = le-ltb a a (omega arith)

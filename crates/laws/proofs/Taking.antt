@@ -4,10 +4,10 @@ use mathlib.Core.Path.{_≡_, refl, sym, ap, _∙_, subst}
 use mathlib.Core.List.{List, [], _∷_, _++_}
 use Prim.Native.Nat.{ℕ, _+_, _-_, _≤_, _<_}
 use native.Mathlib.Omega.{arith}
-use lib.ListN.{length, getD, set, take, drop}
+use lib.ListN.{length, getD, set, take, drop, length-take}
 use lib.Seq.{length-take-le}
 use Rattle.laws.specs.Lists.{without, putFirst}
-use Rattle.laws.proofs.Compact.{kept, kept-le, kept-drop, compact, compact-read, compact-drop, compact-keep, counted-drop, counted-keep, cleared, cleared-none, cleared-more, compact-clear}
+use Rattle.laws.proofs.Compact.{kept, kept-le, kept-drop, compact, compact-read, compact-drop, compact-keep, counted-drop, counted-keep, cleared, cleared-none, cleared-more, cleared-put, compact-clear}
 
 module _ {A R : Type 0} (rd : List A → List R) (z : R) where
   -- the first i of l₀ are passed, and l has the n that are kept of them in front
@@ -59,6 +59,16 @@ module _ {A R : Type 0} (rd : List A → List R) (z : R) where
         let s : rd l ≡ compact out z (rd l₀) count = rw ei at (v .sofar) in
         let q : rd l′ ≡ cleared z (rd l) (take n (rd l)) count = rw ek at (w .sofar) in
         q ∙ rw (s, c) (compact-clear out z (rd l₀) count fit)
+
+    -- the same where what is left is cleared by a call
+    pub closed : count ≤ i → (l′ : List A) → rd l′ ≡ putFirst z count (take n (rd l)) (rd l) → rd l′ ≡ putFirst z count (without out (take count (rd l₀))) (rd l₀)
+    closed past l′ w =
+        let ei : i ≡ count = omega arith in
+        let c : n ≡ length (kept out z (rd l₀) count) = rw ei at (v .counted) in
+        let s : rd l ≡ compact out z (rd l₀) count = rw ei at (v .sofar) in
+        let le = n-le in
+        let short : length (take n (rd l)) ≤ count = simp length-take (omega arith) in
+        w ∙ sym (cleared-put z (rd l) (take n (rd l)) count short) ∙ rw (s, c) (compact-clear out z (rd l₀) count fit)
 
   pub clear-none : (l : List A) (count n : ℕ) → n ≤ count → n ≤ length (rd l) → Clearing l l count n n
   clear-none l count n h m = record { from = omega arith; within = h; long = refl; sofar = cleared-none z (rd l) n m }

@@ -5,10 +5,12 @@
 --     ended      none is left: the answer is true
 -- The same for the first n of a list (`counted`): the element at i of `take n l` is that of l.
 use mathlib.Core.Path.{_≡_, refl, sym, ap, _∙_}
-use mathlib.Core.Bool.{Bool, true, false, not, _&&_}
+use mathlib.Core.Bool.{Bool, true, false, not, _&&_, _||_}
 use borrow.Author.Tests.{not-true, not-false, le-leb, lt-leb}
 use mathlib.Core.List.{List, [], _∷_}
-use Prim.Native.Nat.{ℕ, suc, _+_, _≤_, _<_, _^_}
+use Prim.Native.Nat.{ℕ, zero, suc, _+_, _≤_, _<_, _^_}
+use native.Mathlib.Nat.{le-of-suc-le-suc}
+use native.Mathlib.Omega.{arith}
 use native.Mathlib.Numerals.{add-one}
 use lib.IntN.{ℤ}
 use lib.Signed.{mag}
@@ -18,6 +20,7 @@ use mir.Facts.{toZ-ofZ}
 use lib.ListN.{length, take, drop, getD, drop-of-length-le}
 use lib.Seq.{drop-cons, getD-take, length-take-le}
 use Rattle.laws.specs.Lists.{all, counted}
+use Rattle.laws.proofs.Ranges.{left, right}
 
 abbrev pub Left : {A : Type 0} → (A → Bool) → List A → ℕ → Type 0
 Left p l i = all p l ≡ all p (drop i l)
@@ -90,6 +93,16 @@ and-no b e = rw e
 pub and-yes : {a b r : Bool} → a ≡ true → r ≡ b → r ≡ (a && b)
 and-yes e h = rw e h
 
--- tests that are all made and joined by `&`
+-- tests that are all made and joined by `&`, or by `|`
 pub both : {a a′ b b′ : Bool} → a ≡ a′ → b ≡ b′ → (a && b) ≡ (a′ && b′)
 both p q = rw (p, q)
+
+-- what a test of all says of each
+pub all-at : {A : Type 0} (p : A → Bool) (l : List A) (i : ℕ) (d : A) → all p l ≡ true → i < length l → p (getD l i d) ≡ true
+unfolding all
+all-at p [] i d e h = absurd (omega arith)
+all-at p (x ∷ l) zero d e h = left (p x) (all p l) e
+all-at p (x ∷ l) (suc i) d e h = all-at p l i d (right (p x) (all p l) e) (le-of-suc-le-suc h)
+
+pub one-of : {a a′ b b′ : Bool} → a ≡ a′ → b ≡ b′ → (a || b) ≡ (a′ || b′)
+one-of p q = rw (p, q)

@@ -1,0 +1,4 @@
+pub mod Near
+pub mod Refusing
+pub mod Splitting
+pub mod Promises

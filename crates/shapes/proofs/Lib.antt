@@ -1,0 +1,5 @@
+pub mod Size
+pub mod Join
+pub mod Start
+pub mod Cutting
+pub mod Points

@@ -1,0 +1,6 @@
+pub mod Rules
+pub mod Line
+pub mod Mixing
+pub mod Start
+pub mod Between
+pub mod Points
