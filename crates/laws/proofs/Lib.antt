@@ -16,3 +16,12 @@ pub mod Ranges
 pub mod Sizes
 pub mod Ends
 pub mod Zeros
+pub mod Bools
+pub mod Every
+pub mod Fitting
+pub mod Moving
+pub mod Following
+pub mod Differences
+pub mod Cuts
+pub mod Keys
+pub mod Reading

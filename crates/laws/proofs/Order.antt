@@ -3,8 +3,8 @@ use mathlib.Core.Bool.{Bool, true, false}
 use mathlib.Core.Path.{_≡_, refl, sym, ap, _∙_}
 use native.Mathlib.Omega.{arith}
 use lib.IntN.{ℤ, pos, negsuc}
-use lib.Signed.{ltZ}
-use borrow.Author.Tests.{ltb-true, ltb-false, lt-ltb, le-ltb}
+use lib.Signed.{ltZ, leZ}
+use borrow.Author.Tests.{ltb-true, ltb-false, lt-ltb, le-ltb, leb-true, lt-leb}
 
 pub ltZ-asym : (a b : ℤ) → ltZ a b ≡ true → ltZ b a ≡ false
 ltZ-asym (pos a) (pos b) h = le-ltb b a (let k = ltb-true a b h in omega arith)
@@ -26,3 +26,16 @@ nltZ-trans (negsuc a) (negsuc b) (negsuc c) h k = le-ltb a c (let p = ltb-false 
 pub ltZ-irrefl : (a : ℤ) → ltZ a a ≡ false
 ltZ-irrefl (pos a) = le-ltb a a (omega arith)
 ltZ-irrefl (negsuc a) = le-ltb a a (omega arith)
+
+-- below, and not below
+pub lt-not-le : (a b : ℤ) → ltZ a b ≡ true → leZ b a ≡ false
+lt-not-le (pos a) (pos b) h = lt-leb b a (ltb-true a b h)
+lt-not-le (pos a) (negsuc b) h = cc
+lt-not-le (negsuc a) (pos b) h = refl
+lt-not-le (negsuc a) (negsuc b) h = lt-leb a b (ltb-true b a h)
+
+pub le-not-lt : (a b : ℤ) → leZ a b ≡ true → ltZ b a ≡ false
+le-not-lt (pos a) (pos b) h = le-ltb b a (leb-true a b h)
+le-not-lt (pos a) (negsuc b) h = cc
+le-not-lt (negsuc a) (pos b) h = refl
+le-not-lt (negsuc a) (negsuc b) h = le-ltb a b (leb-true b a h)

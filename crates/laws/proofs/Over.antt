@@ -1,7 +1,6 @@
 -- A loop that lays the elements of v over those of z from the front, one store a turn (`over`), at any element.
 --     over-more   a store takes it from i to i + 1
 --     over-all    after all of v
--- A loop that puts elements one behind the other over those of a list: `put-next`.
 use mathlib.Core.Path.{_≡_, sym, ap, _∙_}
 use mathlib.Core.List.{List, [], _∷_, _++_}
 use Prim.Native.Nat.{ℕ, suc, _+_, _<_}
@@ -21,10 +20,3 @@ over-more z v i d hz hv =
 
 pub over-all : {A : Type 0} (z v : List A) (i : ℕ) → i ≡ length v → over z v i ≡ v ++ drop (length v) z
 over-all z v i q = rw (q, take-length)
-
-pub put-next : {A : Type 0} (p l : List A) (n : ℕ) (x : A) → length p ≡ n → n < length l → set (p ++ drop n l) n x ≡ (p ++ (x ∷ [])) ++ drop (n + 1) l
-put-next p l n x e h =
-    rw add-one
-    (ap (λ r. set (p ++ r) n x) (drop-cons l n x h)
-    ∙ set-at p (getD l n x) (drop (suc n) l) x n e
-    ∙ sym (append-snoc p x (drop (suc n) l)))

@@ -13,7 +13,8 @@ use lib.Seq.{getD-at, take-length}
 use Rattle.laws.specs.Lists.{unless, without}
 use Rattle.laws.specs.Sort.{place, insert, insertAll, stableSort, NoneBelow, Sorted}
 use Rattle.laws.proofs.Sorting.{insert-at, sorted-at, sorted-insert}
-use Rattle.laws.proofs.Merging.{which, lt-le, insert-yes, insert-no}
+use Rattle.laws.proofs.Bools.{which}
+use Rattle.laws.proofs.Merging.{lt-le, insert-yes, insert-no}
 
 module _ {R : Type 0} (less : R → R → Bool) (asym : (a b : R) → less a b ≡ true → less b a ≡ false) (trans : (a b c : R) → less b a ≡ false → less c b ≡ false → less c a ≡ false) where
   -- ---- a class of equals

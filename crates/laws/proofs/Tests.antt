@@ -9,8 +9,7 @@ use mathlib.Core.Bool.{Bool, true, false, not, _&&_, _||_}
 use borrow.Author.Tests.{not-true, not-false, le-leb, lt-leb}
 use mathlib.Core.List.{List, [], _∷_}
 use Prim.Native.Nat.{ℕ, zero, suc, _+_, _≤_, _<_, _^_}
-use native.Mathlib.Nat.{le-of-suc-le-suc}
-use native.Mathlib.Omega.{arith}
+use native.Mathlib.Nat.{not-suc-le-zero, le-of-suc-le-suc}
 use native.Mathlib.Numerals.{add-one}
 use lib.IntN.{ℤ}
 use lib.Signed.{mag}
@@ -40,6 +39,13 @@ module _ {A : Type 0} (p : A → Bool) (l : List A) (i : ℕ) (d : A) where
 
   pub failed : i < length l → p (getD l i d) ≡ false → Left p l i → false ≡ all p l
   failed h e s = sym (s ∙ cons h ∙ ap (λ (b : Bool). b && all p (drop (suc i) l)) e)
+
+-- a test that holds of every element holds of the one at i
+pub all-at : {A : Type 0} (p : A → Bool) (l : List A) (i : ℕ) (d : A) → i < length l → all p l ≡ true → p (getD l i d) ≡ true
+unfolding all
+all-at p [] i d h e = absurd (not-suc-le-zero h)
+all-at p (x ∷ l) zero d h e = left (p x) (all p l) e
+all-at p (x ∷ l) (suc i) d h e = all-at p l i d (le-of-suc-le-suc h) (right (p x) (all p l) e)
 
 -- the same of the first n of l
 module _ {A : Type 0} (p : A → Bool) (n : ℕ) (l : List A) (i : ℕ) (d : A) (h : i < n) (m : n ≤ length l) where
@@ -96,13 +102,6 @@ and-yes e h = rw e h
 -- tests that are all made and joined by `&`, or by `|`
 pub both : {a a′ b b′ : Bool} → a ≡ a′ → b ≡ b′ → (a && b) ≡ (a′ && b′)
 both p q = rw (p, q)
-
--- what a test of all says of each
-pub all-at : {A : Type 0} (p : A → Bool) (l : List A) (i : ℕ) (d : A) → all p l ≡ true → i < length l → p (getD l i d) ≡ true
-unfolding all
-all-at p [] i d e h = absurd (omega arith)
-all-at p (x ∷ l) zero d e h = left (p x) (all p l) e
-all-at p (x ∷ l) (suc i) d e h = all-at p l i d (right (p x) (all p l) e) (le-of-suc-le-suc h)
 
 pub one-of : {a a′ b b′ : Bool} → a ≡ a′ → b ≡ b′ → (a || b) ≡ (a′ || b′)
 one-of p q = rw (p, q)
