@@ -7,7 +7,7 @@ use Prim.Native.Nat.{ℕ, _+_}
 use native.Mathlib.Omega.{arith}
 use lib.ListN.{length, length-append}
 use Rattle.laws.specs.Lists.{without}
-use Rattle.laws.proofs.Merging.{which}
+use Rattle.laws.proofs.Bools.{which}
 use Rattle.events.specs.declared.Event.{Event}
 use Rattle.notes.specs.Notes.{isNote, offOf, withOff, splitNotes}
 

@@ -14,7 +14,7 @@ use native.Mathlib.Omega.{arith}
 use lib.ListN.{length, getD, set, take, drop, length-append, take-append-drop, drop-of-length-le, List·getD-append}
 use lib.Seq.{take-suc, drop-cons, take-take, getD-take, length-take-le, set-at}
 use Rattle.laws.specs.Lists.{putFirst}
-use Rattle.laws.proofs.Over.{put-next}
+use Rattle.laws.proofs.Reading.{set-behind}
 use Rattle.events.specs.declared.Event.{Event}
 use Rattle.events.specs.Events.{zeroEvent}
 use Rattle.notes.specs.Notes.{isNote, offOf, withOff, splitNotes}
@@ -93,7 +93,7 @@ module _ (es l₀ l : List Event) (i n : ℕ) (v : Filling es l₀ l i n) (h : i
   one = set l n e
 
   put-one : one ≡ (splitNotes (take i es) ++ (e ∷ [])) ++ drop (n + 1) l₀
-  put-one = rw (v .sofar) (put-next (splitNotes (take i es)) l₀ n e (sym (v .counted)) room)
+  put-one = rw (v .sofar) (set-behind (splitNotes (take i es)) l₀ n e (sym (v .counted)) room e)
 
   pub fill-plain : isNote e ≡ false → Filling es l₀ one (i + 1) (n + 1)
   fill-plain t =
@@ -111,7 +111,7 @@ module _ (es l₀ l : List Event) (i n : ℕ) (v : Filling es l₀ l i n) (h : i
       record {
         counted = (let k : n + 1 + 1 ≡ n + 2 = omega arith in k) ∙ count-note es i n h (v .counted) e q t;
         sofar = ap (λ (r : List Event). set r (n + 1) (offOf e)) put-one
-            ∙ put-next (splitNotes (take i es) ++ (e ∷ [])) l₀ (n + 1) (offOf e) m more
+            ∙ set-behind (splitNotes (take i es) ++ (e ∷ [])) l₀ (n + 1) e m more (offOf e)
             ∙ ap (λ (r : List Event). r ++ drop (n + 1 + 1) l₀) (sym w);
       }
 

@@ -6,8 +6,10 @@ use mathlib.Core.Path.{_≡_, refl, sym, ap, _∙_}
 use Prim.Native.Nat.{_-_, _≤_}
 use native.Mathlib.Omega.{arith}
 use lib.ListN.{length, getD, take}
-use lib.Seq.{getD-take, length-take-le}
-use Rattle.laws.proofs.Tests.{Left, passed-of, failed-of, ended-of, no, yes, all-at}
+use Rattle.laws.proofs.Tests.{Left, passed-of, failed-of, ended-of, no, yes}
+use Rattle.laws.proofs.Every.{all-below}
+use Rattle.laws.proofs.Every.{all-below}
+use Rattle.laws.proofs.Every.{all-below}
 use Rattle.events.specs.Events.{okEvent, zeroEvent}
 use Rattle.eventlist.specs.Rows.{rowsOf, eventsOf}
 use Rattle.eventlist.specs.Sound.{okEvents}
@@ -29,9 +31,8 @@ stored c =
     let a = c .before .before in
     let s = a .before in
     let r = rowsOf (s .args .events .now) in
-    let n = length-take-le (s .args .count) r (s .pre .0) in
-    ap (okEvent (s .args .store)) (c .read-event .ensures ∙ sym (getD-take (s .args .count) r (a .loop .i) zeroEvent (omega arith)))
-    ∙ all-at (okEvent (s .args .store)) (take (s .args .count) r) (a .loop .i) zeroEvent (s .pre .1) (omega arith)
+    ap (okEvent (s .args .store)) (c .read-event .ensures)
+    ∙ all-below (okEvent (s .args .store)) r (s .args .count) (a .loop .i) zeroEvent (s .pre .1) (omega arith) (s .pre .0)
 
 -- what the test of its end says of record i
 asked : (c : tie.After-end-ok Inv-loop μ-loop) (t : Bool)

@@ -61,7 +61,7 @@ module _ (c : tie.After-read-event Inv-loop μ-loop) where
       let s = a .before in
       let n = length-take-le (s .args .count) l₀ fit in
       let w = back .within in
-      ap (okEvent (s .args .store)) is ∙ all-at (okEvent (s .args .store)) (take (s .args .count) l₀) j zeroEvent (s .pre .0 .1) (omega arith)
+      ap (okEvent (s .args .store)) is ∙ all-at (okEvent (s .args .store)) (take (s .args .count) l₀) j zeroEvent (omega arith) (s .pre .0 .1)
 
   within : a .loop .n ≤ length l₀
   within = reaches l₀ (a .before .args .count) fit room (rowsOf (a .loop .events)) j (a .loop .n) back (c .read-event .result)

@@ -7,8 +7,9 @@ use mathlib.Core.List.{List}
 use Prim.Native.Nat.{ℕ, _+_, _-_, _≤_, _<_}
 use native.Mathlib.Omega.{arith}
 use lib.ListN.{length, getD, set, take}
-use lib.Seq.{getD-take, length-take-le}
-use Rattle.laws.proofs.Tests.{all-at}
+use Rattle.laws.proofs.Every.{all-below}
+use Rattle.laws.proofs.Every.{all-below}
+use Rattle.laws.proofs.Every.{all-below}
 use Rattle.events.specs.declared.Event.{Event}
 use Rattle.events.specs.Events.{okEvent, zeroEvent}
 use Rattle.eventlist.specs.Rows.{rowsOf, eventsOf}
@@ -62,9 +63,8 @@ module _ (c : tie.After-read-event Inv-loop μ-loop) where
   stored =
       let s = a .before in
       let r = rowsOf (s .args .events .now) in
-      let n = length-take-le (s .args .count) r (s .pre .0 .0) in
-      ap (okEvent (s .args .store)) (c .read-event .ensures ∙ sym (getD-take (s .args .count) r (a .loop .i) zeroEvent (omega arith)))
-      ∙ all-at (okEvent (s .args .store)) (take (s .args .count) r) (a .loop .i) zeroEvent (s .pre .0 .1) (omega arith)
+      ap (okEvent (s .args .store)) (c .read-event .ensures)
+      ∙ all-below (okEvent (s .args .store)) r (s .args .count) (a .loop .i) zeroEvent (s .pre .0 .1) (omega arith) (s .pre .0 .0)
 
 loop-holds : tie.Need-loop-holds Inv-loop μ-loop
 loop-holds c = (omega arith, refl, fill-none (rowsOf (c .args .events .now)) (rowsOf (c .args .out .now)))

@@ -1,0 +1,11 @@
+pub mod Lasts
+pub mod Folding
+pub mod Room
+pub mod Stored
+pub mod Values
+pub mod Putting
+pub mod Composing
+pub mod Asking
+pub mod Refusing
+pub mod Promises
+pub mod Marked

@@ -1,0 +1,4 @@
+pub mod Choice
+pub mod Value
+pub mod Cuts
+pub mod Passes
