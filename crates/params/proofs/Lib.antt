@@ -1,0 +1,4 @@
+pub mod Limits
+pub mod Calls
+pub mod Kept
+pub mod Options

@@ -1,0 +1,4 @@
+pub mod Cycle
+pub mod Curve
+pub mod Reserve
+pub mod Setting
