@@ -1,0 +1,10 @@
+pub mod Closed
+pub mod Stepping
+pub mod Jumping
+pub mod Stopping
+pub mod Adding
+pub mod Sources
+pub mod Starting
+pub mod Taming
+pub mod Running
+pub mod Tripling

@@ -1,0 +1,3 @@
+pub mod Targets
+pub mod Clamping
+pub mod Paying

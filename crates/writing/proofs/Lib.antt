@@ -1,0 +1,13 @@
+pub mod Calling
+pub mod Origins
+pub mod Writes
+pub mod Drawing
+pub mod Cases
+pub mod Shifting
+pub mod Every
+pub mod Promises
+pub mod Nothing
+pub mod Lasting
+pub mod Allowed
+pub mod Freedom
+pub mod Orders

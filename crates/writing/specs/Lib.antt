@@ -1,0 +1,7 @@
+pub mod Origins
+pub mod Calls
+pub mod Waves
+pub mod Sines
+pub mod Targets
+pub mod Allowed
+pub mod Free
