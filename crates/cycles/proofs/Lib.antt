@@ -1,0 +1,14 @@
+pub mod Count
+pub mod Table
+pub mod Rules
+pub mod Fitting
+pub mod Keeping
+pub mod Order
+pub mod Series
+pub mod Loop
+pub mod Push
+pub mod Running
+pub mod Placing
+pub mod Meaning
+pub mod Cases
+pub mod Instance

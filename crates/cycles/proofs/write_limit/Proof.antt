@@ -1,0 +1,22 @@
+-- `cycles::write_limit`: the lesser of the two.
+use native.Mathlib.Omega.{arith}
+use borrow.Author.Needs.{needs}
+use Rattle.cycles.specs.Calls.{limit}
+use Rattle.cycles.proofs.write_limit.Statement.{statement}
+use Rattle.cycles.proofs.write_limit.Tie as tie
+
+safe-iteration-limit-requires : tie.Need-safe-iteration-limit-requires
+safe-iteration-limit-requires c κs = search needs
+
+cast-most : tie.Need-cast-most
+cast-most c = search needs
+
+lesser-requires : tie.Need-lesser-requires
+lesser-requires c κs = search needs
+
+returns : tie.Need-returns
+unfolding limit
+returns c = omega (arith, c .lesser .ensures, c .before .safe-iteration-limit .ensures)
+
+pub write-limit-spec : {M : Type 1} → statement M
+write-limit-spec = tie.close (tie.spec safe-iteration-limit-requires cast-most lesser-requires returns)

@@ -1,0 +1,18 @@
+-- `tables::no_note`: the empty list stands in it.
+use mathlib.Core.Path.{_≡_, ap}
+use borrow.Author.Needs.{needs}
+use lib.IntN.{pos}
+use Rattle.counted.specs.declared.Numbers.{Numbers}
+use Rattle.tables.specs.declared.OnNoteValues.{OnNoteValues}
+use Rattle.tables.specs.Tables.{noNote}
+use Rattle.tables.proofs.no_note.Statement.{statement}
+use Rattle.tables.proofs.no_note.Tie as tie
+
+empty-requires : tie.Need-empty-requires
+empty-requires c κs = search needs
+
+returns : tie.Need-returns
+returns c = ap (λ (v : Numbers). record { target = pos 0; index = 0; cycling = 0; values = v }) (c .empty .ensures)
+
+pub no-note-spec : {M : Type 1} → statement M
+no-note-spec = tie.close (tie.spec empty-requires returns)

@@ -1,0 +1,2 @@
+pub mod Reservations
+pub mod Tables
