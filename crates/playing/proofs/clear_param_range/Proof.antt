@@ -1,0 +1,27 @@
+-- `clear_param_range`: the parameter's own call, and the track.
+use mathlib.Core.Path.{ap, _∙_}
+use borrow.Author.Needs.{needs}
+use Rattle.params.specs.Calls.{clearRange}
+use Rattle.playing.specs.Calls.{onParam}
+use Rattle.playing.proofs.clear_param_range.Statement.{statement}
+use Rattle.playing.proofs.clear_param_range.Tie as tie
+
+param-at-requires : tie.Need-param-at-requires
+param-at-requires c κs = search needs
+
+clear-range-requires : tie.Need-clear-range-requires
+clear-range-requires c κs = search needs
+
+param-set-requires : tie.Need-param-set-requires
+param-set-requires c κs = search needs
+
+returns : tie.Need-returns
+returns c =
+    let m = c .before in
+    let p = m .before in
+    let s = p .before in
+    c .param-set .ensures ∙ ap (onParam (s .args .which) (s .args .track)) (m .clear-range .ensures ∙ ap clearRange (p .param-at .ensures))
+
+pub clear-param-range-spec : {M : Type 1} → statement M
+clear-param-range-spec =
+    tie.close (tie.spec param-at-requires clear-range-requires param-set-requires returns)

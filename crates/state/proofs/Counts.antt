@@ -1,0 +1,32 @@
+-- A table that passes its test counts at most its places.
+use mathlib.Core.Path.{_≡_}
+use mathlib.Core.Bool.{Bool, true}
+use mathlib.Core.List.{List}
+use Prim.Native.Nat.{ℕ, _≤_}
+use borrow.Author.Tests.{leb-true}
+use lib.Dec.{leb}
+use lib.ListN.{take}
+use Rattle.laws.specs.Lists.{all, counted}
+use Rattle.laws.proofs.Ranges.{left}
+use Rattle.numbers.specs.Limits.{places}
+use Rattle.tables.specs.declared.NoteTable.{NoteTable}
+use Rattle.tables.specs.declared.WaveTable.{WaveTable}
+use Rattle.tables.specs.declared.SineTable.{SineTable}
+use Rattle.tables.specs.Reservations.{okValues, okWave, okSine}
+use Rattle.tables.specs.Tables.{okNotes, okWaves, okSines}
+
+pub counted-few : {A : Type 0} (n m : ℕ) (p : A → Bool) (l : List A) → counted n m p l ≡ true → n ≤ m
+unfolding counted
+counted-few n m p l e = leb-true n m (left (leb n m) (all p (take n l)) e)
+
+pub few-notes : (t : NoteTable) → okNotes t ≡ true → t .count ≤ places
+unfolding okNotes
+few-notes t e = counted-few (t .count) places okValues (t .items) e
+
+pub few-waves : (t : WaveTable) → okWaves t ≡ true → t .count ≤ places
+unfolding okWaves
+few-waves t e = counted-few (t .count) places okWave (t .items) e
+
+pub few-sines : (t : SineTable) → okSines t ≡ true → t .count ≤ places
+unfolding okSines
+few-sines t e = counted-few (t .count) places okSine (t .items) e

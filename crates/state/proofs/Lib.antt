@@ -1,0 +1,6 @@
+pub mod Answers
+pub mod Counts
+pub mod Parts
+pub mod Play
+pub mod New
+pub mod Keeping

@@ -1,0 +1,13 @@
+-- `no_cycles` fills the places with what an unused one holds.
+use borrow.Author.Needs.{needs}
+use Rattle.state.proofs.no_cycles.Statement.{statement}
+use Rattle.state.proofs.no_cycles.Tie as tie
+
+no-cycle-requires : tie.Need-no-cycle-requires
+no-cycle-requires c κs = search needs
+
+returns : tie.Need-returns
+returns c = simp (c .no-cycle .ensures)
+
+pub no-cycles-spec : {M : Type 1} → statement M
+no-cycles-spec = tie.close (tie.spec no-cycle-requires returns)

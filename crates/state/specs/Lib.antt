@@ -1,0 +1,3 @@
+pub mod Track
+pub mod Tests
+pub mod Calls

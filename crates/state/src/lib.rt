@@ -1,0 +1,330 @@
+// A track: one record of numbers by value, and the test that every public call makes of it. The events are not in it, nor are
+// the cycles, whose table the caller lends; the track only counts how many records of that table are used. A call that
+// refuses hands back the track that it was given.
+ghost use mathlib.Core.Path.{_≡_};
+ghost use Rattle.laws.specs.Integers.{rangeOf};
+ghost use Rattle.laws.specs.Lists.{all};
+ghost use lib.IntN.{pos};
+ghost use Rattle.values.specs.Options.{okOption};
+ghost use Rattle.state.specs.Track.{noNotes, noWaves, noSines, noCycles, newTrack};
+ghost use Rattle.state.specs.Tests.{okPlay, okParams, okOptions, okTables, okTrack};
+ghost use Rattle.state.specs.Calls.{onChannel, newOf, setTimepos, setChannel, setCcFreq, setPbFreq};
+use cycles::PLACES;
+use layers::Layers;
+use layers::layers_ok;
+use numbers::channel_ok;
+use numbers::is_length;
+use numbers::is_number;
+use numbers::is_time;
+use numbers::is_timebase;
+use params::NoteParam;
+use params::param_ok;
+use tables::CycleTable;
+use tables::NoteTable;
+use tables::SineTable;
+use tables::WaveTable;
+use tables::lone_ok;
+use tables::no_cycle;
+use tables::no_note;
+use tables::no_sine;
+use tables::no_wave;
+use tables::notes_ok;
+use tables::sines_ok;
+use tables::waves_ok;
+use values::WriteOption;
+use values::option_ok;
+
+// The controllers' options, and behind them the one that both bends share.
+pub const OPTIONS: usize = 129;
+
+// `ccfreq` and `pbfreq` are the Rust's `cc_on_time_freq` and `pb_on_time_freq`, `step` its `qlen_is_step`, 0 or 1; v, q, t, o, l are the note
+// parameters of velocity, gate, timing, octave and length. `cycles` counts the records of the lent cycle table.
+#[repr(C)]
+pub struct Track {
+    pub timebase: i32,
+    pub timepos: i64,
+    pub channel: i32,
+    pub ccfreq: i32,
+    pub pbfreq: i32,
+    pub velocity: i32,
+    pub timing: i32,
+    pub octave: i32,
+    pub qlen: i32,
+    pub step: u32,
+    pub v: NoteParam,
+    pub q: NoteParam,
+    pub t: NoteParam,
+    pub o: NoteParam,
+    pub l: NoteParam,
+    pub layers: Layers,
+    pub options: [WriteOption; OPTIONS],
+    pub notes: NoteTable,
+    pub waves: WaveTable,
+    pub sines: SineTable,
+    pub cycles: usize,
+}
+
+// The track as a call leaves it.
+#[repr(C)]
+pub struct TrackAnswer {
+    pub code: u32,
+    pub track: Track,
+}
+
+// Tables in which nothing is reserved.
+pub fn no_notes() -> NoteTable
+    ensures { λ r. ⌜ r ≡ noNotes ⌝ }
+{
+    let e = no_note();
+    NoteTable {
+        count: 0,
+        items: [e; PLACES],
+    }
+}
+
+pub fn no_waves() -> WaveTable
+    ensures { λ r. ⌜ r ≡ noWaves ⌝ }
+{
+    let e = no_wave();
+    WaveTable {
+        count: 0,
+        items: [e; PLACES],
+    }
+}
+
+pub fn no_sines() -> SineTable
+    ensures { λ r. ⌜ r ≡ noSines ⌝ }
+{
+    let e = no_sine();
+    SineTable {
+        count: 0,
+        items: [e; PLACES],
+    }
+}
+
+pub fn no_cycles() -> CycleTable
+    ensures { λ r. ⌜ r ≡ noCycles ⌝ }
+{
+    let e = no_cycle();
+    CycleTable {
+        count: 0,
+        items: [e; PLACES],
+    }
+}
+
+// Whether the numbers that stand in a track alone are in their ranges.
+fn play_ok(track: Track) -> bool
+    ensures { λ r. ⌜ r ≡ okPlay track ⌝ }
+{
+    let a = is_timebase(track.timebase);
+    let b = is_time(track.timepos);
+    let c = channel_ok(track.channel);
+    let d = is_length(track.ccfreq);
+    let e = is_length(track.pbfreq);
+    let f = is_number(track.velocity);
+    let g = is_number(track.timing);
+    let h = is_number(track.octave);
+    let i = is_number(track.qlen);
+    let j = track.step <= 1;
+    a & b & c & d & e & f & g & h & i & j
+}
+
+fn params_ok(v: NoteParam, q: NoteParam, t: NoteParam, o: NoteParam, l: NoteParam) -> bool
+    ensures { λ r. ⌜ r ≡ okParams v q t o l ⌝ }
+{
+    let a = param_ok(v);
+    let b = param_ok(q);
+    let c = param_ok(t);
+    let d = param_ok(o);
+    let e = param_ok(l);
+    a & b & c & d & e
+}
+
+fn options_ok(options: [WriteOption; OPTIONS]) -> bool
+    ensures { λ r. ⌜ r ≡ okOptions options ⌝ }
+{
+    let mut i: usize = 0;
+    while i < OPTIONS {
+        let option = options[i];
+        if !option_ok(option) {
+            return false;
+        }
+        i += 1;
+    }
+    true
+}
+
+// Whether the tables may be stored, and no target has two reservations in them.
+fn tables_ok(notes: NoteTable, waves: WaveTable, sines: SineTable) -> bool
+    ensures { λ r. ⌜ r ≡ okTables notes waves sines ⌝ }
+{
+    let a = notes_ok(notes);
+    let b = waves_ok(waves);
+    let c = sines_ok(sines);
+    if !(a & b & c) {
+        return false;
+    }
+    let none = no_cycles();
+    lone_ok(notes, waves, sines, none)
+}
+
+// Whether every number of a track is in its range. A call that is lent the cycle table tests that besides, and that no
+// target of it is reserved here too.
+pub fn track_ok(track: Track) -> bool
+    ensures { λ r. ⌜ r ≡ okTrack track ⌝ }
+{
+    let options = track.options;
+    let a = play_ok(track);
+    let b = params_ok(track.v, track.q, track.t, track.o, track.l);
+    let c = layers_ok(track.layers);
+    let d = options_ok(options);
+    let e = tables_ok(track.notes, track.waves, track.sines);
+    let f = track.cycles <= PLACES;
+    a & b & c & d & e & f
+}
+
+// A channel for a new track: 0 to 15, whatever is asked.
+fn clamped(channel: i32) -> i32
+    ensures { λ r. ⌜ r ≡ onChannel channel ⌝ }
+{
+    if channel < 0 {
+        return 0;
+    }
+    if 15 < channel {
+        return 15;
+    }
+    channel
+}
+
+// A track at time 0 with nothing set.
+fn blank(timebase: i32, channel: i32) -> Track
+    ensures { λ r. ⌜ r ≡ newTrack timebase channel ⌝ }
+{
+    let param = NoteParam::new();
+    let layers = Layers::new();
+    let option = WriteOption::new();
+    let notes = no_notes();
+    let waves = no_waves();
+    let sines = no_sines();
+    Track {
+        timebase: timebase,
+        timepos: 0,
+        channel: channel,
+        ccfreq: 4,
+        pbfreq: 0,
+        velocity: 100,
+        timing: 0,
+        octave: 5,
+        qlen: 90,
+        step: 0,
+        v: param,
+        q: param,
+        t: param,
+        o: param,
+        l: param,
+        layers: layers,
+        options: [option; OPTIONS],
+        notes: notes,
+        waves: waves,
+        sines: sines,
+        cycles: 0,
+    }
+}
+
+impl Track {
+    // A track at time 0 with nothing set; the channel is clamped to 0..15. Refuses 4, and then hands back a track of
+    // timebase 0, which no call takes.
+    pub fn new(timebase: i32, channel: i32) -> TrackAnswer
+        ensures { λ r. ⌜ r ≡ newOf timebase channel ⌝ }
+    {
+        if !is_timebase(timebase) {
+            let track = blank(0, 0);
+            return TrackAnswer {
+                code: 4,
+                track: track,
+            };
+        }
+        let on = clamped(channel);
+        let track = blank(timebase, on);
+        TrackAnswer {
+            code: 0,
+            track: track,
+        }
+    }
+}
+
+// Where the track stands: the time of what is written next. Refuses 4.
+pub fn set_timepos(mut track: Track, timepos: i64) -> TrackAnswer
+    ensures { λ r. ⌜ r ≡ setTimepos track timepos ⌝ }
+{
+    let a = track_ok(track);
+    let b = is_time(timepos);
+    if !(a & b) {
+        return TrackAnswer {
+            code: 4,
+            track: track,
+        };
+    }
+    track.timepos = timepos;
+    TrackAnswer {
+        code: 0,
+        track: track,
+    }
+}
+
+// The channel of what is written next; outside 0..15 it is not clamped here. Refuses 4.
+pub fn set_channel(mut track: Track, channel: i32) -> TrackAnswer
+    ensures { λ r. ⌜ r ≡ setChannel track channel ⌝ }
+{
+    let a = track_ok(track);
+    let b = channel_ok(channel);
+    if !(a & b) {
+        return TrackAnswer {
+            code: 4,
+            track: track,
+        };
+    }
+    track.channel = channel;
+    TrackAnswer {
+        code: 0,
+        track: track,
+    }
+}
+
+// How many steps apart a controller's curve is written. Refuses 4.
+pub fn set_cc_on_time_freq(mut track: Track, freq: i32) -> TrackAnswer
+    ensures { λ r. ⌜ r ≡ setCcFreq track freq ⌝ }
+{
+    let a = track_ok(track);
+    let b = is_length(freq);
+    if !(a & b) {
+        return TrackAnswer {
+            code: 4,
+            track: track,
+        };
+    }
+    track.ccfreq = freq;
+    TrackAnswer {
+        code: 0,
+        track: track,
+    }
+}
+
+// The same of a bend's curve. Refuses 4.
+pub fn set_pb_on_time_freq(mut track: Track, freq: i32) -> TrackAnswer
+    ensures { λ r. ⌜ r ≡ setPbFreq track freq ⌝ }
+{
+    let a = track_ok(track);
+    let b = is_length(freq);
+    if !(a & b) {
+        return TrackAnswer {
+            code: 4,
+            track: track,
+        };
+    }
+    track.pbfreq = freq;
+    TrackAnswer {
+        code: 0,
+        track: track,
+    }
+}
