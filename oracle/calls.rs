@@ -129,7 +129,13 @@ fn listed(desk: &mut Desk, op: i64, a: &[i64]) -> Reply {
             desk.list.push(a.try_into().unwrap());
             done()
         }
-        302 => answer(&desk.list[a[0] as usize]),
+        302 => {
+            let mut record = desk.list[a[0] as usize];
+            if record[7] == 0 {
+                record[6] = 0;
+            }
+            answer(&record)
+        }
         303 => on_list(desk, |track| {
             let (target, timepos) = (target_of(a[0]), track.timepos);
             track.timepos = x[1] - track.get_write_opt(target).delay;

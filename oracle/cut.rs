@@ -1,5 +1,5 @@
 // The full cut, which the original does not have, from its sentence in document 01: as `play_from`, but bends at or after the cut are kept, and the folded events
-// stand first: controllers rising, program, then the last bend before the cut on its own channel.
+// stand first: controllers rising, program, then the last bend before the cut, the event itself at time 0.
 
 use crate::original::*;
 
@@ -14,7 +14,7 @@ pub fn full_cut(events: &[Event], cut: isize) -> Vec<Event> {
         (event.v2 >= 0).then(|| Event::cc(0, channel, number, event.v2))
     });
     let program = last(&is(EventType::Voice)).filter(|event| event.v1 >= 0).map(|event| Event::voice(0, channel, event.v1));
-    let bend = last(&is(EventType::PitchBend)).map(|event| Event::pitch_bend(0, event.channel, event.v1));
+    let bend = last(&is(EventType::PitchBend)).map(|event| Event { time: 0, ..event.clone() });
 
     let kept = events.iter().filter_map(|event| {
         let moved = Event { time: event.time - cut, ..event.clone() };

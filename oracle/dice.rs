@@ -167,13 +167,13 @@ impl Dice {
         self.of(&[(0, 257), (1, 256), (256, 1), (257, 0), (300, 5), (4_000_000_000, 4_000_000_000)])
     }
 
-    /// A sound record. Bends have nothing in v2 and v3, as every constructor makes them.
+    /// A sound record.
     pub fn record(&mut self) -> [i64; 8] {
         let kind = self.of(&[0, 0, 1, 2, 2, 2, 2, 3, 3, 3, 4, 5, 5, 6, 7, 8]);
         let time = self.good(Arg::Stamp);
         let channel = if self.one_in(3) { self.pick(0, 15) } else { self.pick(0, 1) };
         let v1 = if kind == 2 { self.good(Arg::Controller) } else { self.good(Arg::Word) };
-        let (v2, v3) = if kind == 3 { (0, 0) } else { (self.good(Arg::Word), self.good(Arg::Word)) };
+        let (v2, v3) = (self.good(Arg::Word), self.good(Arg::Word));
         let (offset, length) = if kind >= 6 { self.stretch() } else { (0, 0) };
         [kind, time, channel, v1, v2, v3, offset, length]
     }

@@ -8,6 +8,9 @@ use crate::script::Step;
 use crate::sine::Quarter;
 use crate::table::{Arg, Call, CALLS};
 
+/// The most records that a list has.
+const MOST_RECORDS: i64 = 4096;
+
 pub struct Maker {
     pub dice: Dice,
     pub desk: Desk,
@@ -77,7 +80,34 @@ impl Maker {
         if self.has(&[8]) && self.dice.one_in(3) {
             return self.emit(801, &[timebase, channel]);
         }
+        if self.has(&[3]) && self.dice.one_in(50) {
+            self.emit(902, &[timebase, channel, MOST_RECORDS]);
+            return self.many_records();
+        }
         self.emit(902, &[timebase, channel, room]);
+    }
+
+    /// A list of thousands: as wild as a short one, in order, nearly in order, falling, at few times or at many, and sometimes full.
+    fn many_records(&mut self) {
+        let some = self.dice.pick(1000, 3000);
+        let count = self.dice.of(&[some, some, some, MOST_RECORDS - 1, MOST_RECORDS]);
+        let order = self.dice.pick(0, 5);
+        let middle = self.dice.near();
+        for at in 0..count {
+            let mut record = self.dice.record();
+            record[1] = match order {
+                0 => record[1],
+                1 => at,
+                2 => at * 10 + self.dice.pick(0, 30),
+                3 => count - at,
+                4 => self.dice.pick(-1, 2),
+                _ => self.dice.pick(-count, count),
+            };
+            if order > 0 {
+                record[1] += middle;
+            }
+            self.emit(904, &record);
+        }
     }
 
     /// Much, little or nothing left; also more used than there is.

@@ -88,7 +88,8 @@ impl Maker {
         let entries =
             [5, track.v_sub.len(), 129, track.cc_on_note.len(), track.cc_on_note_wave.len(), track.cc_on_note_sine.len(), track.cc_on_cycle.len()];
         let count = entries[(op - 908) as usize] as i64;
-        if count == 0 || !self.meets(letters) {
+        // Families below 4 take of a track its plain numbers alone, and know of no tables.
+        if count == 0 || !self.meets(letters) || !self.has(&[4, 5, 6, 7, 8]) {
             return;
         }
         let place = self.dice.pick(0, count - 1);

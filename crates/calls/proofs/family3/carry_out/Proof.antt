@@ -1,0 +1,63 @@
+-- `carry_out` is safe: the first n numbers are n numbers.
+use mathlib.Core.Path.{sym}
+use lib.Seq.{length-take-le}
+use borrow.Author.Needs.{needs}
+use Rattle.calls.proofs.family3.carry_out.Statement.{statement}
+use Rattle.calls.proofs.family3.carry_out.Tie as tie
+
+numbers-in-requires : tie.Need-numbers-in-requires
+numbers-in-requires c κs = search needs
+
+numbers-in-requires-2 : tie.Need-numbers-in-requires-2
+numbers-in-requires-2 c κs = search needs
+
+slice-relend-prefix-on-list : tie.Need-slice-relend-prefix-on-list
+slice-relend-prefix-on-list c = search needs
+
+slice-aggregate-on-list : tie.Need-slice-aggregate-on-list
+slice-aggregate-on-list c = sym (length-take-le _ _ (search needs))
+
+slice-relend-prefix-on-list-2 : tie.Need-slice-relend-prefix-on-list-2
+slice-relend-prefix-on-list-2 c = search needs
+
+slice-aggregate-on-list-2 : tie.Need-slice-aggregate-on-list-2
+slice-aggregate-on-list-2 c = sym (length-take-le _ _ (search needs))
+
+on-list-requires : tie.Need-on-list-requires
+on-list-requires c κs = search needs
+
+same-length : tie.Need-same-length
+same-length c = search needs
+
+same-length-2 : tie.Need-same-length-2
+same-length-2 c = search needs
+
+returns : tie.Need-returns
+returns c = search needs
+
+unknown-requires : tie.Need-unknown-requires
+unknown-requires c κs = search needs
+
+answered-requires : tie.Need-answered-requires
+answered-requires c κs = search needs
+
+returns-2 : tie.Need-returns-2
+returns-2 c = search needs
+
+pub carry-out-spec : {M : Type 1} → statement M
+carry-out-spec =
+    tie.close
+    (tie.spec
+    numbers-in-requires
+    numbers-in-requires-2
+    slice-relend-prefix-on-list
+    slice-aggregate-on-list
+    slice-relend-prefix-on-list-2
+    slice-aggregate-on-list-2
+    on-list-requires
+    same-length
+    same-length-2
+    returns
+    unknown-requires
+    answered-requires
+    returns-2)

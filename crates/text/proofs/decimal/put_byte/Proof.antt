@@ -1,0 +1,22 @@
+-- `put_byte`: one store.
+use mathlib.Core.Path.{refl}
+use native.Mathlib.Omega.{arith}
+use Rattle.text.proofs.Laying.{laid-byte}
+use borrow.Author.Needs.{needs}
+use Rattle.text.proofs.decimal.put_byte.Statement.{statement}
+use Rattle.text.proofs.decimal.put_byte.Tie as tie
+
+slice-write-out : tie.Need-slice-write-out
+slice-write-out c = search needs
+
+add-result : tie.Need-add-result
+add-result c = search needs
+
+same-length : tie.Need-same-length
+same-length c = search needs
+
+returns : tie.Need-returns
+returns c = let a = c .args in (laid-byte (a .at) (a .b) (a .out .now) (omega (arith, c .pre)), refl)
+
+pub put-byte-spec : {M : Type 1} → statement M
+put-byte-spec = tie.close (tie.spec slice-write-out add-result same-length returns)
