@@ -1,0 +1,176 @@
+// The original and the port on the same lists, in one process. A line for each case: the medians of repeated runs, and ours by theirs. Before a case is timed both sides make the
+// call once, and the times and the kinds that they leave are compared. docs/PERFORMANCE.md says how the lists are made and what the figures were.
+
+#[path = "../target/bench/original.rs"]
+mod original;
+#[path = "../oracle/stand_ins.rs"]
+mod stand_ins;
+
+use original::*;
+use std::time::Instant;
+
+#[link(name = "benches", kind = "static")]
+extern "C" {
+    fn bench_take_out(events: *mut i64, numbers: usize, count: usize, kind: i64, number: i64, start: i64, end: i64) -> usize;
+    fn bench_remove_pitch_bend_in_range(events: *mut i64, numbers: usize, count: usize, start: i64, end: i64, store: *const u8, bytes: usize) -> usize;
+    fn bench_play_from(events: *mut i64, numbers: usize, count: usize, cut: i64, store: *const u8, bytes: usize) -> usize;
+    fn bench_normalize(events: *mut i64, numbers: usize, count: usize, store: *const u8, bytes: usize) -> usize;
+    fn bench_events_sort(events: *mut i64, numbers: usize, count: usize, store: *const u8, bytes: usize) -> usize;
+}
+
+/// Steps between two events of a list in order.
+const STEP: isize = 10;
+const STORE: [u8; 16] = [0xf0; 16];
+
+struct Dice(u64);
+
+impl Dice {
+    fn below(&mut self, n: usize) -> usize {
+        self.0 ^= self.0 << 13;
+        self.0 ^= self.0 >> 7;
+        self.0 ^= self.0 << 17;
+        (self.0 >> 16) as usize % n
+    }
+}
+
+#[derive(Clone, Copy)]
+enum Order {
+    Rising,
+    Nearly,
+    Random,
+}
+
+/// Notes, controllers, bends, programs and now and then one with data, at the times of the order.
+fn list(count: usize, order: Order) -> Vec<Event> {
+    let mut dice = Dice(88172645463325252);
+    let mut times: Vec<isize> = (0..count as isize).map(|at| at * STEP).collect();
+    match order {
+        Order::Rising => (),
+        Order::Nearly => {
+            for _ in 0..=count / 100 {
+                let at = dice.below(count);
+                times.swap(at, (at + dice.below(20)).min(count - 1));
+            }
+        }
+        Order::Random => times.iter_mut().for_each(|time| *time = dice.below(count * STEP as usize) as isize),
+    }
+    let mut events = vec![];
+    for time in times {
+        let (channel, a, b) = (dice.below(16) as isize, dice.below(128) as isize, dice.below(128) as isize);
+        events.push(match dice.below(20) {
+            0..=6 => Event::note(time, channel, a, b, 100),
+            7..=12 => Event::cc(time, channel, a, b),
+            13..=17 => Event::pitch_bend(time, channel, a * 64),
+            18 => Event::voice(time, channel, a),
+            _ => Event::sysex_raw(time, STORE[..dice.below(16)].to_vec()),
+        });
+    }
+    events
+}
+
+const KINDS: [EventType; 9] = [
+    EventType::NoteOn,
+    EventType::NoteOff,
+    EventType::ControllChange,
+    EventType::PitchBend,
+    EventType::PitchBendRange,
+    EventType::Voice,
+    EventType::Meta,
+    EventType::SysEx,
+    EventType::DirectSMF,
+];
+
+fn kind(event: &Event) -> i64 {
+    KINDS.iter().position(|kind| *kind == event.etype).unwrap() as i64
+}
+
+/// The same list as numbers, with room for twice as many events.
+fn numbers(events: &[Event]) -> Vec<i64> {
+    let mut out = vec![];
+    for e in events {
+        let length = e.data.as_ref().map_or(0, Vec::len);
+        out.extend([kind(e), e.time as i64, e.channel as i64, e.v1 as i64, e.v2 as i64, e.v3 as i64, 0, length as i64]);
+    }
+    out.resize(events.len() * 16, 0);
+    out
+}
+
+fn track(events: &[Event]) -> Track {
+    let mut track = Track::new(96, 0);
+    track.events = events.to_vec();
+    track
+}
+
+fn same(track: &Track, list: &[i64], count: usize) -> bool {
+    let records = list.chunks_exact(8).take(count);
+    track.events.len() == count && track.events.iter().zip(records).all(|(e, r)| [kind(e), e.time as i64, e.channel as i64, e.v1 as i64, e.v2 as i64, e.v3 as i64] == r[..6])
+}
+
+fn median(mut times: Vec<f64>) -> f64 {
+    times.sort_by(f64::total_cmp);
+    times[times.len() / 2]
+}
+
+/// One case: a fresh copy of the list for each run, which is not timed; the two sides take turns.
+fn case(name: &str, events: &[Event], theirs: impl Fn(&mut Track), ours: impl Fn(&mut [i64], usize) -> usize) {
+    let written = numbers(events);
+    let runs = if events.len() > 10_000 { 31 } else { 1001 };
+    let (mut original, mut port) = (vec![], vec![]);
+    for run in 0..runs {
+        let mut track = track(events);
+        let begun = Instant::now();
+        theirs(&mut track);
+        original.push(begun.elapsed().as_secs_f64() * 1e6);
+
+        let mut list = written.clone();
+        let begun = Instant::now();
+        let count = ours(&mut list, events.len());
+        port.push(begun.elapsed().as_secs_f64() * 1e6);
+        assert!(run > 0 || same(&track, &list, count), "{name}: the lists differ");
+    }
+    let (original, port) = (median(original), median(port));
+    println!("| {name} | {} | {original:.1} | {port:.1} | {:.2} |", events.len(), port / original);
+}
+
+fn main() {
+    let (store, bytes) = (STORE.as_ptr(), STORE.len());
+    println!("| call | events | the Rust, us | ours, us | ratio |\n|---|---|---|---|---|");
+    for count in [1_000, 100_000] {
+        let rising = list(count, Order::Rising);
+        let end = count as isize * STEP;
+        // A tenth of the list's time, in its middle.
+        let (from, to) = (end * 9 / 20, end * 11 / 20);
+        case(
+            "remove_pitch_bend_in_range, a tenth",
+            &rising,
+            |track| track.remove_pitch_bend_in_range(from, to),
+            |list, n| unsafe { bench_remove_pitch_bend_in_range(list.as_mut_ptr(), list.len(), n, from as i64, to as i64, store, bytes) },
+        );
+        case(
+            "its window alone (take_out)",
+            &rising,
+            |track| track.remove_pitch_bend_in_range(from, to),
+            |list, n| unsafe { bench_take_out(list.as_mut_ptr(), list.len(), n, 3, 0, from as i64, to as i64 + 1) },
+        );
+        case(
+            "play_from, the middle",
+            &rising,
+            |track| track.play_from(end / 2),
+            |list, n| unsafe { bench_play_from(list.as_mut_ptr(), list.len(), n, end as i64 / 2, store, bytes) },
+        );
+        case(
+            "normalize",
+            &rising,
+            |track| track.normalize(),
+            |list, n| unsafe { bench_normalize(list.as_mut_ptr(), list.len(), n, store, bytes) },
+        );
+        for (name, order) in [("events_sort, random", Order::Random), ("events_sort, nearly in order", Order::Nearly), ("events_sort, in order", Order::Rising)] {
+            case(
+                name,
+                &list(count, order),
+                |track| track.events_sort(),
+                |list, n| unsafe { bench_events_sort(list.as_mut_ptr(), list.len(), n, store, bytes) },
+            );
+        }
+    }
+}

@@ -1,0 +1,87 @@
+// The list calls under plain names, for bench/main.rs to link beside the original. Each answers the list's new count,
+// or the number of its refusal above every count.
+use cutting::full_cut;
+use cutting::play_from;
+use eventlist::Taken;
+use eventlist::Window;
+use eventlist::list_ok;
+use eventlist::remove_pitch_bend_in_range;
+use eventlist::take_out;
+use notes::normalize;
+use sorting::events_sort;
+
+// Above every count.
+const REFUSED: usize = 4294967296;
+
+fn count_of(t: Taken) -> usize {
+    if t.code != 0 {
+        return REFUSED;
+    }
+    t.count
+}
+
+// The window alone, as curves clear it, with no test of the records.
+#[no_mangle]
+pub extern "C" fn bench_take_out(
+    events: &mut [i64],
+    count: usize,
+    kind: i64,
+    number: i64,
+    start: i64,
+    end: i64,
+) -> usize {
+    if !list_ok(events, count) {
+        return REFUSED;
+    }
+    let w = Window {
+        kind: kind,
+        number: number,
+        start: start,
+        end: end,
+    };
+    take_out(events, count, w)
+}
+
+#[no_mangle]
+pub extern "C" fn bench_remove_pitch_bend_in_range(
+    events: &mut [i64],
+    count: usize,
+    start: i64,
+    end: i64,
+    store: &[u8],
+) -> usize {
+    count_of(remove_pitch_bend_in_range(events, count, start, end, store))
+}
+
+#[no_mangle]
+pub extern "C" fn bench_play_from(
+    events: &mut [i64],
+    count: usize,
+    cut: i64,
+    store: &[u8],
+) -> usize {
+    count_of(play_from(events, count, cut, store))
+}
+
+#[no_mangle]
+pub extern "C" fn bench_full_cut(
+    events: &mut [i64],
+    count: usize,
+    cut: i64,
+    store: &[u8],
+) -> usize {
+    count_of(full_cut(events, count, cut, store))
+}
+
+#[no_mangle]
+pub extern "C" fn bench_normalize(events: &mut [i64], count: usize, store: &[u8]) -> usize {
+    count_of(normalize(events, count, store))
+}
+
+#[no_mangle]
+pub extern "C" fn bench_events_sort(events: &mut [i64], count: usize, store: &[u8]) -> usize {
+    if events_sort(events, count, store) != 0 {
+        return REFUSED;
+    }
+    count
+}
