@@ -12,7 +12,15 @@ use std::time::Instant;
 #[link(name = "benches", kind = "static")]
 extern "C" {
     fn bench_take_out(events: *mut i64, numbers: usize, count: usize, kind: i64, number: i64, start: i64, end: i64) -> usize;
-    fn bench_remove_pitch_bend_in_range(events: *mut i64, numbers: usize, count: usize, start: i64, end: i64, store: *const u8, bytes: usize) -> usize;
+    fn bench_remove_pitch_bend_in_range(
+        events: *mut i64,
+        numbers: usize,
+        count: usize,
+        start: i64,
+        end: i64,
+        store: *const u8,
+        bytes: usize,
+    ) -> usize;
     fn bench_play_from(events: *mut i64, numbers: usize, count: usize, cut: i64, store: *const u8, bytes: usize) -> usize;
     fn bench_normalize(events: *mut i64, numbers: usize, count: usize, store: *const u8, bytes: usize) -> usize;
     fn bench_events_sort(events: *mut i64, numbers: usize, count: usize, store: *const u8, bytes: usize) -> usize;
@@ -84,14 +92,14 @@ fn kind(event: &Event) -> i64 {
     KINDS.iter().position(|kind| *kind == event.etype).unwrap() as i64
 }
 
-/// The same list as numbers, with room for twice as many events.
-fn numbers(events: &[Event]) -> Vec<i64> {
+/// The same list as numbers, with room for so many times as many events.
+fn numbers(events: &[Event], times: usize) -> Vec<i64> {
     let mut out = vec![];
     for e in events {
         let length = e.data.as_ref().map_or(0, Vec::len);
         out.extend([kind(e), e.time as i64, e.channel as i64, e.v1 as i64, e.v2 as i64, e.v3 as i64, 0, length as i64]);
     }
-    out.resize(events.len() * 16, 0);
+    out.resize(events.len() * 8 * times, 0);
     out
 }
 
@@ -103,7 +111,8 @@ fn track(events: &[Event]) -> Track {
 
 fn same(track: &Track, list: &[i64], count: usize) -> bool {
     let records = list.chunks_exact(8).take(count);
-    track.events.len() == count && track.events.iter().zip(records).all(|(e, r)| [kind(e), e.time as i64, e.channel as i64, e.v1 as i64, e.v2 as i64, e.v3 as i64] == r[..6])
+    track.events.len() == count
+        && track.events.iter().zip(records).all(|(e, r)| [kind(e), e.time as i64, e.channel as i64, e.v1 as i64, e.v2 as i64, e.v3 as i64] == r[..6])
 }
 
 fn median(mut times: Vec<f64>) -> f64 {
@@ -111,9 +120,9 @@ fn median(mut times: Vec<f64>) -> f64 {
     times[times.len() / 2]
 }
 
-/// One case: a fresh copy of the list for each run, which is not timed; the two sides take turns.
-fn case(name: &str, events: &[Event], theirs: impl Fn(&mut Track), ours: impl Fn(&mut [i64], usize) -> usize) {
-    let written = numbers(events);
+/// One case: a fresh copy of the list for each run, which is not timed; the two sides take turns. The port's list has room for `times` as many events as it holds.
+fn case(name: &str, events: &[Event], times: usize, theirs: impl Fn(&mut Track), ours: impl Fn(&mut [i64], usize) -> usize) {
+    let written = numbers(events, times);
     let runs = if events.len() > 10_000 { 31 } else { 1001 };
     let (mut original, mut port) = (vec![], vec![]);
     for run in 0..runs {
@@ -143,31 +152,38 @@ fn main() {
         case(
             "remove_pitch_bend_in_range, a tenth",
             &rising,
+            1,
             |track| track.remove_pitch_bend_in_range(from, to),
             |list, n| unsafe { bench_remove_pitch_bend_in_range(list.as_mut_ptr(), list.len(), n, from as i64, to as i64, store, bytes) },
         );
         case(
             "its window alone (take_out)",
             &rising,
+            1,
             |track| track.remove_pitch_bend_in_range(from, to),
             |list, n| unsafe { bench_take_out(list.as_mut_ptr(), list.len(), n, 3, 0, from as i64, to as i64 + 1) },
         );
         case(
             "play_from, the middle",
             &rising,
+            1,
             |track| track.play_from(end / 2),
             |list, n| unsafe { bench_play_from(list.as_mut_ptr(), list.len(), n, end as i64 / 2, store, bytes) },
         );
         case(
             "normalize",
             &rising,
+            2,
             |track| track.normalize(),
             |list, n| unsafe { bench_normalize(list.as_mut_ptr(), list.len(), n, store, bytes) },
         );
-        for (name, order) in [("events_sort, random", Order::Random), ("events_sort, nearly in order", Order::Nearly), ("events_sort, in order", Order::Rising)] {
+        for (name, order) in
+            [("events_sort, random", Order::Random), ("events_sort, nearly in order", Order::Nearly), ("events_sort, in order", Order::Rising)]
+        {
             case(
                 name,
                 &list(count, order),
+                1,
                 |track| track.events_sort(),
                 |list, n| unsafe { bench_events_sort(list.as_mut_ptr(), list.len(), n, store, bytes) },
             );

@@ -167,7 +167,8 @@ fn shift(e: Event, c: Cut) -> Event
     at_time(e, e.time - c.at)
 }
 
-// Whether an event may be stored beside a store of `store` bytes, and be kept if it is.
+// Whether an event may be stored beside a store of `store` bytes, and be kept if it is. A time that is too far is rare:
+// only then is the kind asked.
 fn fits(e: Event, c: Cut, store: usize) -> bool
     requires { ⌜ isTime (c .at) ≡ true ⌝ }
     ensures { λ r. ⌜ r ≡ fitsCut store c e ⌝ }
@@ -175,11 +176,11 @@ fn fits(e: Event, c: Cut, store: usize) -> bool
     if !event_ok(e, store) {
         return false;
     }
-    if !is_kept(e, c) {
-        return true;
-    }
     let s = shift(e, c);
-    is_event_time(s.time)
+    if !is_event_time(s.time) {
+        return !is_kept(e, c);
+    }
+    true
 }
 
 // Whether each of the `count` events fits.
