@@ -1,1 +1,5 @@
 pub mod Answers
+pub mod Codes
+pub mod LayerCodes
+pub mod Refusals
+pub mod Keeping
