@@ -1,0 +1,175 @@
+// A track's options, and what it writes at its own time: the calls that change a target's option, and those that draw a
+// curve or a sine into the lent list. Each tests what it is handed in the order of document 01's table and takes the track
+// apart once. A call that refuses hands back what it was given.
+ghost use mathlib.Core.Path.{_≡_};
+ghost use Prim.Native.Nat.{_≤_};
+ghost use Rattle.numbers.specs.Limits.{places};
+ghost use Rattle.drawing.specs.Options.{optionOf, optionFor, left, setDelay, setRandom, setRange, clearRange, turned, notesTurned, setRepeat};
+use cycles::key_of;
+use numbers::is_length;
+use numbers::is_number;
+use numbers::is_random;
+use numbers::is_target;
+use state::Track;
+use state::TrackAnswer;
+use state::track_ok;
+use tables::NoteTable;
+use tables::OnNoteValues;
+use values::WriteOption;
+
+// A target's option, or the refusal and an option in which nothing is set.
+#[repr(C)]
+pub struct OptionAnswer {
+    pub code: u32,
+    pub option: WriteOption,
+}
+
+// The option that stands for a target; both bends have one.
+fn option_of(track: Track, target: i32) -> WriteOption
+    ensures { λ r. ⌜ r ≡ optionOf track target ⌝ }
+{
+    let k = key_of(target);
+    track.options[k]
+}
+
+// What is set for a target. Refuses 2, 4.
+pub fn get_write_opt(track: Track, target: i32) -> OptionAnswer
+    ensures { λ r. ⌜ r ≡ optionFor track target ⌝ }
+{
+    let none = WriteOption::new();
+    if !is_target(target) {
+        return OptionAnswer {
+            code: 2,
+            option: none,
+        };
+    }
+    if !track_ok(track) {
+        return OptionAnswer {
+            code: 4,
+            option: none,
+        };
+    }
+    let option = option_of(track, target);
+    OptionAnswer {
+        code: 0,
+        option: option,
+    }
+}
+
+// The track with a target's option, where the target, the track and what was handed in are allowed.
+fn leave_option(mut track: Track, target: i32, option: WriteOption, allowed: bool) -> TrackAnswer
+    ensures { λ r. ⌜ r ≡ left track target option allowed ⌝ }
+{
+    if !is_target(target) {
+        return TrackAnswer {
+            code: 2,
+            track: track,
+        };
+    }
+    if !(track_ok(track) & allowed) {
+        return TrackAnswer {
+            code: 4,
+            track: track,
+        };
+    }
+    let k = key_of(target);
+    track.options[k] = option;
+    TrackAnswer {
+        code: 0,
+        track: track,
+    }
+}
+
+// How many steps later a target's events stand. Refuses 2, 4.
+pub fn set_delay(track: Track, target: i32, delay: i32) -> TrackAnswer
+    ensures { λ r. ⌜ r ≡ setDelay track target delay ⌝ }
+{
+    let allowed = is_length(delay);
+    let mut option = option_of(track, target);
+    option.delay = delay;
+    leave_option(track, target, option, allowed)
+}
+
+// How far random moves a target's values; 0 or less is off. Refuses 2, 4.
+pub fn set_random(track: Track, target: i32, random: i32) -> TrackAnswer
+    ensures { λ r. ⌜ r ≡ setRandom track target random ⌝ }
+{
+    let allowed = is_random(random);
+    let mut option = option_of(track, target);
+    option.random = random;
+    leave_option(track, target, option, allowed)
+}
+
+// The range to which a target's values are limited. Refuses 2, 4.
+pub fn set_range(track: Track, target: i32, low: i32, high: i32) -> TrackAnswer
+    ensures { λ r. ⌜ r ≡ setRange track target low high ⌝ }
+{
+    let a = is_number(low);
+    let b = is_number(high);
+    let mut option = option_of(track, target);
+    option.ranged = 1;
+    option.low = low;
+    option.high = high;
+    leave_option(track, target, option, a & b)
+}
+
+// A target's values are limited no more. Refuses 2, 4.
+pub fn clear_range(track: Track, target: i32) -> TrackAnswer
+    ensures { λ r. ⌜ r ≡ clearRange track target ⌝ }
+{
+    let mut option = option_of(track, target);
+    option.ranged = 0;
+    option.low = 0;
+    option.high = 0;
+    leave_option(track, target, option, true)
+}
+
+// A list for notes: where it is that of key `k`, whether it goes round is set.
+fn turn(mut e: OnNoteValues, k: usize, on: u32) -> OnNoteValues
+    ensures { λ r. ⌜ r ≡ turned k on e ⌝ }
+{
+    if key_of(e.target) == k {
+        e.cycling = on;
+        return e;
+    }
+    e
+}
+
+// The table with each of its lists so turned.
+fn turn_notes(table: NoteTable, k: usize, on: u32) -> NoteTable
+    requires { ⌜ table .count ≤ places ⌝ }
+    ensures { λ r. ⌜ r ≡ notesTurned table k on ⌝ }
+{
+    let count = table.count;
+    let from = table.items;
+    let mut items = table.items;
+    let mut i: usize = 0;
+    while i < count {
+        let e = from[i];
+        items[i] = turn(e, k, on);
+        i += 1;
+    }
+    NoteTable {
+        count: count,
+        items: items,
+    }
+}
+
+// Whether a target's lists for notes go round, 0 or 1; it reaches the list that is stored too. Refuses 2, 4.
+pub fn set_repeat(track: Track, target: i32, on: u32) -> TrackAnswer
+    ensures { λ r. ⌜ r ≡ setRepeat track target on ⌝ }
+{
+    let mut option = option_of(track, target);
+    option.repeat = on;
+    let r = leave_option(track, target, option, on <= 1);
+    if r.code != 0 {
+        return r;
+    }
+    let k = key_of(target);
+    let mut t = r.track;
+    t.notes = turn_notes(track.notes, k, on);
+    TrackAnswer {
+        code: 0,
+        track: t,
+    }
+}
