@@ -88,8 +88,9 @@ impl Maker {
         let entries =
             [5, track.v_sub.len(), 129, track.cc_on_note.len(), track.cc_on_note_wave.len(), track.cc_on_note_sine.len(), track.cc_on_cycle.len()];
         let count = entries[(op - 908) as usize] as i64;
-        // Families below 4 take of a track its plain numbers alone, and know of no tables.
-        if count == 0 || !self.meets(letters) || !self.has(&[4, 5, 6, 7, 8]) {
+        // Families below 4 take of a track its plain numbers alone, and family 4 has the parameters; both know of no tables.
+        let known: &[i64] = if op == 908 { &[4, 5, 6, 7, 8] } else { &[5, 6, 7, 8] };
+        if count == 0 || !self.meets(letters) || !self.has(known) {
             return;
         }
         let place = self.dice.pick(0, count - 1);

@@ -1,9 +1,10 @@
 // Family 3: the list, lent as the desk says. What the Rust has no call for (301 to 303) tests here what a call of the
-// port tests; of the track call 305 takes the ten numbers that the desk has.
+// port tests; of the track call 305 takes the ten numbers and the parameters that the desk has.
 use crate::desk::Called;
 use crate::desk::Desk;
 use crate::desk::MOST_RECORDS;
 use crate::desk::answered;
+use crate::desk::param_at;
 use crate::desk::with_count;
 use crate::desk::with_split;
 use crate::record::event_of;
@@ -32,6 +33,7 @@ use numbers::is_number;
 use numbers::is_target;
 use numbers::is_time;
 use numbers::is_timebase;
+use params::param_ok;
 use script::answer::Answer;
 use script::answer::one;
 use script::answer::refusal;
@@ -162,6 +164,16 @@ fn track_ok(t: [i64; 10]) -> bool {
         & numbers_ok(t[5], t[6], t[7], t[8])
 }
 
+// Whether a track may have these parameters.
+fn params_ok(desk: Desk) -> bool {
+    let v = param_ok(param_at(desk, 0));
+    let q = param_ok(param_at(desk, 1));
+    let t = param_ok(param_at(desk, 2));
+    let o = param_ok(param_at(desk, 3));
+    let l = param_ok(param_at(desk, 4));
+    v & q & t & o & l
+}
+
 // 305.
 fn value(desk: Desk, count: usize, number: i64, events: &[i64], store: &[u8]) -> Answer {
     let t = desk.track;
@@ -170,6 +182,9 @@ fn value(desk: Desk, count: usize, number: i64, events: &[i64], store: &[u8]) ->
         return refusal(v.code);
     }
     if !track_ok(t) {
+        return refusal(4);
+    }
+    if !params_ok(desk) {
         return refusal(4);
     }
     one(v.value)

@@ -1,6 +1,6 @@
 // Family 9: the desk itself, and how a script makes bad input. These calls test nothing.
-// Calls 908 to 914 put numbers into a track's parameters and tables. The desk has none yet, so that they find nothing to put
-// a number into; the families that would show one are not there either.
+// Calls 909 to 914 put numbers into a track's layers, options and tables. The desk has none yet, so that they find nothing
+// to put a number into; the families that would show one are not there either.
 use crate::desk::Called;
 use crate::desk::Desk;
 use crate::desk::MOST_RECORDS;
@@ -10,6 +10,7 @@ use crate::desk::with_budget;
 use crate::desk::with_count;
 use crate::desk::with_lending;
 use crate::desk::with_number;
+use crate::poke::poke_param;
 use budget::Budget;
 use script::answer::done;
 use script::answer::unknown;
@@ -77,6 +78,7 @@ fn changed(op: i64, args: &[i64], desk: Desk, events: &mut [i64]) -> Desk {
             desk
         }
         907 => with_number(desk, as_usize(a), b),
+        908 => poke_param(desk, as_usize(a), as_usize(b), c),
         _ => desk,
     }
 }

@@ -8,7 +8,10 @@ mod desk;
 mod family1;
 mod family2;
 mod family3;
+mod family4;
 mod family9;
+mod lists;
+mod poke;
 mod record;
 mod sections;
 
@@ -84,6 +87,7 @@ fn call(
         1 => family1::carry_out(op, args, desk, store),
         2 => family2::carry_out(op, args, desk),
         3 => family3::carry_out(op, args, desk, events, second, store),
+        4 => family4::carry_out(op, args, desk),
         9 => family9::carry_out(op, args, desk, events),
         _ => answered(unknown(), desk),
     }

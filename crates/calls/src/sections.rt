@@ -1,7 +1,13 @@
 // The sections that show a desk.
 use crate::desk::Desk;
 use crate::desk::MOST_RECORDS;
+use crate::desk::param_at;
+use crate::lists::widened;
+use counted::LIST_LIMIT;
+use counted::Numbers;
 use eventlist::WIDTH;
+use params::NoteParam;
+use reserved::Reserve;
 use script::args::arg;
 use script::args::as_usize;
 use script::pen::Pen;
@@ -137,6 +143,96 @@ fn show_lists(
     show_list(p, out, b'R', second, desk.split, store)
 }
 
+fn put_flag(pen: Pen, out: &mut [u8], x: u32) -> Pen {
+    number(pen, out, x as i64)
+}
+
+fn put_word(pen: Pen, out: &mut [u8], x: i32) -> Pen {
+    number(pen, out, widened(x))
+}
+
+// A position in a list. One past every list stands for one below 0, which a script can put there and no position of
+// the port can be.
+fn put_place(pen: Pen, out: &mut [u8], i: usize) -> Pen {
+    if i > MOST_RECORDS {
+        return number(pen, out, -1);
+    }
+    number(pen, out, i as i64)
+}
+
+fn put_item(pen: Pen, out: &mut [u8], list: Numbers, i: usize) -> Pen {
+    if i < LIST_LIMIT {
+        let x = list.items[i];
+        return put_word(pen, out, x);
+    }
+    pen
+}
+
+// A stored list: its count, and each number.
+fn put_list(pen: Pen, out: &mut [u8], list: Numbers) -> Pen {
+    let n = list.count;
+    let mut p = put_count(pen, out, n);
+    let mut i: usize = 0;
+    while i < n {
+        p = put_item(p, out, list, i);
+        i += 1;
+    }
+    p
+}
+
+// Kind, start, length. What a kind does not use is 0 in a reservation.
+fn put_kind(pen: Pen, out: &mut [u8], r: Reserve) -> Pen {
+    let a = put_flag(pen, out, r.kind);
+    let b = number(a, out, r.start);
+    put_word(b, out, r.length)
+}
+
+// Index, cycling, and the list.
+fn put_values(pen: Pen, out: &mut [u8], r: Reserve) -> Pen {
+    let a = put_place(pen, out, r.index);
+    let b = put_flag(a, out, r.cycling);
+    let list = r.values;
+    put_list(b, out, list)
+}
+
+fn put_ends(pen: Pen, out: &mut [u8], low: i32, high: i32) -> Pen {
+    let p = put_word(pen, out, low);
+    put_word(p, out, high)
+}
+
+// Random; ranged, low, high.
+fn put_range(pen: Pen, out: &mut [u8], n: NoteParam) -> Pen {
+    let a = put_word(pen, out, n.random);
+    let b = put_flag(a, out, n.ranged);
+    put_ends(b, out, n.low, n.high)
+}
+
+// Delay; has-maximum, maximum; repeat.
+fn put_rest(pen: Pen, out: &mut [u8], n: NoteParam) -> Pen {
+    let a = put_word(pen, out, n.delay);
+    let b = put_flag(a, out, n.maxed);
+    let c = put_word(b, out, n.max);
+    put_flag(c, out, n.repeat)
+}
+
+fn put_param(pen: Pen, out: &mut [u8], n: NoteParam) -> Pen {
+    let r = n.reserve;
+    let a = put_kind(pen, out, r);
+    let b = put_values(a, out, r);
+    let c = put_range(b, out, n);
+    put_rest(c, out, n)
+}
+
+// P of the parameter that the call named; call 418 names none.
+fn show_param(op: i64, pen: Pen, out: &mut [u8], desk: Desk) -> Pen {
+    if op == 418 {
+        return pen;
+    }
+    let p = begin(pen, out, b'P');
+    let q = put_param(p, out, param_at(desk, desk.named));
+    end(q, out)
+}
+
 // The sections of the call's family.
 pub fn show(
     op: i64,
@@ -150,6 +246,7 @@ pub fn show(
     match family_of(op) {
         2 => show_budget(pen, out, desk),
         3 => show_lists(op, pen, out, desk, events, second, store),
+        4 => show_param(op, pen, out, desk),
         _ => pen,
     }
 }
