@@ -1,2 +1,3 @@
 pub mod Refusing
 pub mod Stored
+pub mod Asking

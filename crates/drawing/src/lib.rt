@@ -2,9 +2,12 @@
 // curve or a sine into the lent list. Each tests what it is handed in the order of document 01's table and takes the track
 // apart once. A call that refuses hands back what it was given.
 ghost use mathlib.Core.Path.{_≡_};
-ghost use Prim.Native.Nat.{_≤_};
+ghost use Prim.Native.Nat.{_≤_, max};
+ghost use Rattle.laws.specs.Integers.{cut};
 ghost use Rattle.numbers.specs.Limits.{places};
 ghost use Rattle.drawing.specs.Options.{optionOf, optionFor, left, setDelay, setRandom, setRange, clearRange, turned, notesTurned, setRepeat};
+ghost use Rattle.drawing.specs.Frequency.{bendFreq, freqFor};
+ghost use Rattle.drawing.specs.Write.{writeOf};
 use cycles::key_of;
 use numbers::is_length;
 use numbers::is_number;
@@ -15,6 +18,7 @@ use state::TrackAnswer;
 use state::track_ok;
 use tables::NoteTable;
 use tables::OnNoteValues;
+use values::Write;
 use values::WriteOption;
 
 // A target's option, or the refusal and an option in which nothing is set.
@@ -168,8 +172,62 @@ pub fn set_repeat(track: Track, target: i32, on: u32) -> TrackAnswer
     let k = key_of(target);
     let mut t = r.track;
     t.notes = turn_notes(track.notes, k, on);
-    TrackAnswer {
-        code: 0,
-        track: t,
+    TrackAnswer { code: 0, track: t }
+}
+
+fn at_least_one(n: u64) -> u64
+    ensures { λ r. ⌜ r ≡ max n 1 ⌝ }
+{
+    if n < 1 {
+        return 1;
+    }
+    n
+}
+
+// How many steps a number is: none below 0.
+fn steps_of(x: i32) -> u64
+    ensures { λ r. ⌜ r ≡ cut x ⌝ }
+{
+    let wide = values::widened(x);
+    offers::length_of(wide)
+}
+
+// How many steps apart a bend's values are written: its setting if positive, else a part of the timebase.
+fn bend_freq(freq: i32, timebase: i32) -> u64
+    ensures { λ r. ⌜ r ≡ bendFreq freq timebase ⌝ }
+{
+    let own = steps_of(freq);
+    if own == 0 {
+        let beat = steps_of(timebase);
+        return at_least_one(beat / 32);
+    }
+    own
+}
+
+// How many steps apart a target's values are written, of the settings of controllers and of bends.
+fn freq_for(target: i32, ccfreq: i32, pbfreq: i32, timebase: i32) -> u64
+    ensures { λ r. ⌜ r ≡ freqFor target ccfreq pbfreq timebase ⌝ }
+{
+    let own = steps_of(ccfreq);
+    let controllers = at_least_one(own);
+    let bends = bend_freq(pbfreq, timebase);
+    match target {
+        0..=127 => controllers,
+        _ => bends,
+    }
+}
+
+// What a write at the track's time is asked with: its place, the target's option and frequency.
+fn write_of(track: Track, target: i32) -> Write
+    ensures { λ r. ⌜ r ≡ writeOf track target ⌝ }
+{
+    let option = option_of(track, target);
+    let freq = freq_for(target, track.ccfreq, track.pbfreq, track.timebase);
+    Write {
+        target: target,
+        channel: track.channel,
+        time: track.timepos,
+        freq: freq,
+        option: option,
     }
 }

@@ -1,5 +1,5 @@
 -- `clear_range` hands on the option without a range.
-use mathlib.Core.Path.{_≡_, _∙_}
+use mathlib.Core.Path.{_∙_}
 use mir.Facts.{toZ-ofZ}
 use borrow.Author.Needs.{needs}
 use Rattle.drawing.proofs.clear_range.Statement.{statement}

@@ -3,10 +3,9 @@ use mathlib.Core.Path.{_≡_}
 use mir.Syntax.{w32}
 use mir.Facts.{toZ-ofZ}
 use mathlib.Core.Bool.{true}
-use Rattle.drawing.specs.Options.{optionOf, optionFor}
+use Rattle.drawing.specs.Options.{optionFor}
 use Rattle.laws.proofs.Tests.{no, yes, no-at, yes-at}
 use Rattle.numbers.specs.Ranges.{isTarget}
-use Rattle.state.specs.Tests.{okTrack}
 use Rattle.drawing.proofs.Refusing.{no-target, no-number, well}
 use Rattle.drawing.proofs.Refusing.{with-true}
 use borrow.Author.Needs.{needs}

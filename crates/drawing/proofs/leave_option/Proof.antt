@@ -7,7 +7,7 @@ use native.Mathlib.Omega.{arith}
 use Rattle.cycles.specs.Due.{key}
 use Rattle.state.specs.Calls.{answered}
 use Rattle.drawing.specs.Options.{withOption, left}
-use Rattle.laws.proofs.Tests.{no, yes, no-at, yes-at, is-at, both}
+use Rattle.laws.proofs.Tests.{no, yes, no-at, yes-at, both}
 use Rattle.numbers.specs.Ranges.{isTarget}
 use Rattle.state.specs.Tests.{okTrack}
 use Rattle.drawing.proofs.Refusing.{no-target, no-number, well}

@@ -1,6 +1,5 @@
 -- `option_of`: a key is at most 128.
 use mathlib.Core.Path.{ap, _∙_}
-use mir.Syntax.{w32}
 use mir.Facts.{toZ-ofZ}
 use native.Mathlib.Omega.{arith}
 use Rattle.cycles.specs.Due.{key}

@@ -1,5 +1,5 @@
 -- `set_random` hands on the option with its random.
-use mathlib.Core.Path.{_≡_, _∙_}
+use mathlib.Core.Path.{_∙_}
 use mir.Syntax.{w32}
 use mir.Facts.{toZ-ofZ}
 use Rattle.laws.proofs.Tests.{is-at}

@@ -1,5 +1,5 @@
 -- `turn_notes` lays the turned lists over those of the table (the law Over), one a turn.
-use mathlib.Core.Path.{_≡_, refl, sym, ap, _∙_}
+use mathlib.Core.Path.{_≡_, refl, sym, _∙_}
 use mathlib.Core.List.{List, map}
 use Prim.Native.Nat.{ℕ, _-_, _≤_, _+_, _<_}
 use native.Mathlib.Omega.{arith}
