@@ -1,3 +1,2 @@
 pub mod Refusing
-pub mod Stored
 pub mod Asking

@@ -12,8 +12,10 @@ use Rattle.numbers.specs.Limits.{places}
 use Rattle.tables.specs.declared.NoteTable.{NoteTable}
 use Rattle.tables.specs.declared.WaveTable.{WaveTable}
 use Rattle.tables.specs.declared.SineTable.{SineTable}
+use Rattle.tables.specs.declared.CycleTable.{CycleTable}
+use Rattle.cycles.specs.Rules.{okCycle}
 use Rattle.tables.specs.Reservations.{okValues, okWave, okSine}
-use Rattle.tables.specs.Tables.{okNotes, okWaves, okSines}
+use Rattle.tables.specs.Tables.{okNotes, okWaves, okSines, okCycles}
 
 pub counted-few : {A : Type 0} (n m : ℕ) (p : A → Bool) (l : List A) → counted n m p l ≡ true → n ≤ m
 unfolding counted
@@ -30,3 +32,7 @@ few-waves t e = counted-few (t .count) places okWave (t .items) e
 pub few-sines : (t : SineTable) → okSines t ≡ true → t .count ≤ places
 unfolding okSines
 few-sines t e = counted-few (t .count) places okSine (t .items) e
+
+pub few-cycles : (t : CycleTable) → okCycles t ≡ true → t .count ≤ places
+unfolding okCycles
+few-cycles t e = counted-few (t .count) places okCycle (t .items) e

@@ -4,3 +4,4 @@ pub mod Parts
 pub mod Play
 pub mod New
 pub mod Keeping
+pub mod Stored

@@ -14,9 +14,10 @@ use Rattle.values.specs.Options.{okOption}
 use Rattle.tables.specs.declared.NoteTable.{NoteTable}
 use Rattle.tables.specs.declared.WaveTable.{WaveTable}
 use Rattle.tables.specs.declared.SineTable.{SineTable}
-use Rattle.tables.specs.Tables.{okNotes, okWaves, okSines, lone}
+use Rattle.tables.specs.Tables.{okNotes, okWaves, okSines, okCycles, lone}
 use Rattle.state.specs.declared.Track.{Track}
-use Rattle.state.specs.Track.{noCycles}
+use Rattle.cycles.specs.declared.Cycle.{Cycle}
+use Rattle.state.specs.Track.{noCycles, cyclesOf}
 
 -- "times within ±2^40; timebase 1 to 32,767; channel 0..15; frequency ±2^20; velocities, timing, octave, qlen ±2^22"
 unfoldable pub okPlay : Track → Bool
@@ -39,3 +40,7 @@ unfoldable pub okTrack : Track → Bool
 okTrack a =
     okPlay a && okParams (a .v) (a .q) (a .t) (a .o) (a .l) && okLayers (a .layers) && okOptions (a .options)
     && okTables (a .notes) (a .waves) (a .sines) && leb (a .cycles) places
+
+-- the same of a track and the cycle table that is lent with it: "over all four kinds"
+unfoldable pub okLent : Track → List Cycle → Bool
+okLent a cs = okTrack a && okCycles (cyclesOf a cs) && lone (a .notes) (a .waves) (a .sines) (cyclesOf a cs)

@@ -10,6 +10,7 @@ use Rattle.layers.specs.declared.Layers.{Layers}
 use Rattle.layers.specs.Layers.{oneLayer}
 use Rattle.values.specs.declared.WriteOption.{WriteOption}
 use Rattle.values.specs.Options.{newOption}
+use Rattle.cycles.specs.declared.Cycle.{Cycle}
 use Rattle.tables.specs.declared.NoteTable.{NoteTable}
 use Rattle.tables.specs.declared.WaveTable.{WaveTable}
 use Rattle.tables.specs.declared.SineTable.{SineTable}
@@ -60,6 +61,10 @@ newTrack b c =
       sines = noSines;
       cycles = 0;
     }
+
+-- the cycles of a track: the lent records, as many as the track counts
+abbrev pub cyclesOf : Track → List Cycle → CycleTable
+cyclesOf a cs = record { count = a .cycles; items = cs }
 
 -- ---- one thing changed: of the numbers, of the parameters, of the rest
 abbrev pub withPlay : Track → ℤ → ℤ → ℤ → ℤ → ℤ → ℤ → ℤ → ℤ → ℕ → Track

@@ -6,9 +6,10 @@ ghost use Rattle.laws.specs.Integers.{rangeOf};
 ghost use Rattle.laws.specs.Lists.{all};
 ghost use lib.IntN.{pos};
 ghost use Rattle.values.specs.Options.{okOption};
-ghost use Rattle.state.specs.Track.{noNotes, noWaves, noSines, noCycles, newTrack};
-ghost use Rattle.state.specs.Tests.{okPlay, okParams, okOptions, okTables, okTrack};
+ghost use Rattle.state.specs.Track.{noNotes, noWaves, noSines, noCycles, newTrack, cyclesOf};
+ghost use Rattle.state.specs.Tests.{okPlay, okParams, okOptions, okTables, okTrack, okLent};
 ghost use Rattle.state.specs.Calls.{onChannel, newOf, setTimepos, setChannel, setCcFreq, setPbFreq};
+use cycles::Cycle;
 use cycles::PLACES;
 use layers::Layers;
 use layers::layers_ok;
@@ -23,6 +24,7 @@ use tables::CycleTable;
 use tables::NoteTable;
 use tables::SineTable;
 use tables::WaveTable;
+use tables::cycles_ok;
 use tables::lone_ok;
 use tables::no_cycle;
 use tables::no_note;
@@ -181,6 +183,31 @@ pub fn track_ok(track: Track) -> bool
     let e = tables_ok(track.notes, track.waves, track.sines);
     let f = track.cycles <= PLACES;
     a & b & c & d & e & f
+}
+
+// A track's cycles: of the sixteen records that are lent, as many as the track counts.
+pub fn cycles_of(track: Track, cycles: [Cycle; PLACES]) -> CycleTable
+    ensures { λ r. ⌜ r ≡ cyclesOf track cycles ⌝ }
+{
+    CycleTable {
+        count: track.cycles,
+        items: cycles,
+    }
+}
+
+// Whether a track and the cycle table that is lent with it may be used: each passes its test, and no target has two
+// reservations over all four kinds.
+pub fn lent_ok(track: Track, cycles: [Cycle; PLACES]) -> bool
+    ensures { λ r. ⌜ r ≡ okLent track cycles ⌝ }
+{
+    if !track_ok(track) {
+        return false;
+    }
+    let own = cycles_of(track, cycles);
+    if !cycles_ok(own) {
+        return false;
+    }
+    lone_ok(track.notes, track.waves, track.sines, own)
 }
 
 // A channel for a new track: 0 to 15, whatever is asked.

@@ -16,6 +16,7 @@ use Rattle.laws.specs.Rows.{rows}
 use Rattle.laws.proofs.Signed.{cut-mag}
 use Rattle.laws.proofs.Ranges.{left, right, sized-mag}
 use Rattle.numbers.specs.Ranges.{isTime, isNumber, isLength}
+use Rattle.counted.specs.Curves as curves
 use Rattle.sines.specs.declared.SineType.{SineType}
 use Rattle.values.specs.declared.Write.{Write}
 use Rattle.values.specs.Value.{Ready}
@@ -25,7 +26,6 @@ use Rattle.offers.specs.Waves.{tripleOf, triples, triplesOf}
 use Rattle.offers.specs.Sources.{Tame, Fine}
 use Rattle.offers.proofs.Taming.{bound, far-wave}
 use Rattle.offers.proofs.Tripling.{length-triples}
-use Rattle.writing.specs.Allowed.{thirdOf, thirds, okTriples}
 use Rattle.writing.specs.Sines.{sinePiece, sinePieces}
 use Rattle.writing.proofs.Drawing.{long-le}
 
@@ -58,12 +58,12 @@ length-mag : (z : ℤ) → isLength z ≡ true → mag z ≤ 2 ^ 20
 unfolding isLength
 length-mag z e = sized-mag (2 ^ 20) z e
 
-tame-rows : (n : ℕ) (l : List ℤ) → all isNumber l ≡ true → all isLength (rows 3 thirdOf n l) ≡ true → Tame (rows 3 tripleOf n l)
-unfolding all
+tame-rows : (n : ℕ) (l : List ℤ) → all isNumber l ≡ true → all curves.hasLength (rows 3 curves.tripleOf n l) ≡ true → Tame (rows 3 tripleOf n l)
+unfolding all curves.hasLength
 tame-rows zero l p q = tt
 tame-rows (suc n) l p q =
     let t = getD l 2 (pos 0) in
-    let m = length-mag t (left (isLength t) (all isLength (rows 3 thirdOf n (drop 3 l))) q) in
+    let m = length-mag t (left (isLength t) (all curves.hasLength (rows 3 curves.tripleOf n (drop 3 l))) q) in
     let c = cut-mag t in (
       record {
         low = number-mag (getD l 0 (pos 0)) (all-at isNumber number-zero l 0 p);
@@ -71,14 +71,14 @@ tame-rows (suc n) l p q =
         len = omega arith;
         glide = refl;
       },
-      tame-rows n (drop 3 l) (all-drop isNumber 3 l p) (right (isLength t) (all isLength (rows 3 thirdOf n (drop 3 l))) q),
+      tame-rows n (drop 3 l) (all-drop isNumber 3 l p) (right (isLength t) (all curves.hasLength (rows 3 curves.tripleOf n (drop 3 l))) q),
     )
 
-pub fine : (l : List ℤ) → okTriples l ≡ true → length l ≤ 2 ^ 10 → Fine l
-unfolding okTriples thirds triples
+pub fine : (l : List ℤ) → curves.isCurve l ≡ true → length l ≤ 2 ^ 10 → Fine l
+unfolding curves.isCurve curves.triples triples
 fine l e h =
     record {
-      tame = tame-rows (length l / 3) l (left (all isNumber l) (all isLength (thirds l)) e) (right (all isNumber l) (all isLength (thirds l)) e);
+      tame = tame-rows (length l / 3) l (left (all isNumber l) (all curves.hasLength (curves.triples l)) e) (right (all isNumber l) (all curves.hasLength (curves.triples l)) e);
       few = omega (arith, length-triples l);
     }
 

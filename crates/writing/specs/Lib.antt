@@ -3,5 +3,4 @@ pub mod Calls
 pub mod Waves
 pub mod Sines
 pub mod Targets
-pub mod Allowed
 pub mod Free

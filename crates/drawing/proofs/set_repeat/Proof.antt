@@ -13,7 +13,7 @@ use Rattle.state.specs.Track.{withTables}
 use Rattle.state.specs.Calls.{answer}
 use Rattle.drawing.specs.Options.{targetRefusal, optionOf, withOption, withRepeat, left, notesTurned, setRepeat}
 use Rattle.drawing.proofs.Refusing.{code-of, unmoved, settled, usable}
-use Rattle.drawing.proofs.Stored.{few}
+use Rattle.state.proofs.Stored.{notes-few}
 use Rattle.drawing.proofs.set_repeat.Statement.{statement}
 use Rattle.drawing.proofs.set_repeat.Tie as tie
 
@@ -59,7 +59,7 @@ key-of-requires c κs = search needs
 turn-notes-requires : tie.Need-turn-notes-requires
 turn-notes-requires c κs =
     let d = c .before .before .before .before in
-    few (s d .args .track) (usable (s d .args .track) (s d .args .target) _ (sym (numbered d) ∙ c .before .before .if1 .left))
+    notes-few (s d .args .track) (usable (s d .args .track) (s d .args .target) _ (sym (numbered d) ∙ c .before .before .if1 .left))
 
 returns-2 : tie.Need-returns-2
 unfolding left setRepeat withOption
