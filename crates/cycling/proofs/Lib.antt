@@ -1,0 +1,5 @@
+pub mod Refusing
+pub mod Calling
+pub mod Keeping
+pub mod Demand
+pub mod Instance

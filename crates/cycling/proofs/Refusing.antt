@@ -1,0 +1,135 @@
+-- The number of a cycle call: by division it is the same as by the list that would be left (`quick`), and what 0 tells.
+use mathlib.Core.Path.{_≡_, refl, ap, _∙_}
+use mathlib.Core.Bool.{Bool, true, false, _&&_}
+use mathlib.Core.List.{List, _++_}
+use Prim.Native.Nat.{ℕ, _+_, _/_, _≤_}
+use native.Mathlib.Omega.{arith}
+use borrow.Author.Tests.{ne-eqb, ltb-false}
+use lib.Dec.{eqb, ltb}
+use lib.IntN.{ℤ}
+use lib.ListN.{length, drop}
+use lib.Seq.{length-take-le}
+use Rattle.laws.specs.Lists.{counted, putFirst}
+use Rattle.laws.specs.Rows.{flat}
+use Rattle.laws.proofs.Ranges.{left, right}
+use Rattle.numbers.specs.Limits.{places}
+use Rattle.numbers.specs.Ranges.{isTime}
+use Rattle.budget.specs.declared.Budget.{Budget}
+use Rattle.budget.specs.Budgets.{okBudget}
+use Rattle.events.specs.declared.Event.{Event}
+use Rattle.events.specs.Events.{zeroEvent}
+use Rattle.eventlist.specs.Rows.{recordWidth, numbersOf, rowsOf, eventsOf}
+use Rattle.eventlist.specs.Sound.{isList}
+use Rattle.eventlist.proofs.EventRows.{length-rowsOf}
+use Rattle.eventlist.proofs.Sound.{list-within}
+use Rattle.cycles.specs.declared.Cycle.{Cycle}
+use Rattle.cycles.specs.Rules.{okCycle}
+use Rattle.cycles.specs.Turns.{turn, optionOf, calledState}
+use Rattle.cycles.proofs.Push.{call-count}
+use Rattle.tables.specs.Tables.{okCycles, lone}
+use Rattle.state.specs.declared.Track.{Track}
+use Rattle.state.specs.Track.{cyclesOf}
+use Rattle.state.specs.Tests.{okTrack, okLent}
+use Rattle.cycling.specs.Calls.{usedOf, leftBy, inOrder, gainsOf, cycleRefusal, quickRefusal, cycledOf, cycledList}
+
+-- ---- the three tests
+
+pub passed-1 : (p q r : Bool) → inOrder p q r ≡ 0 → p ≡ true
+passed-1 true q r e = refl
+passed-1 false q r e = absurd (omega arith)
+
+pub passed-4 : (p q r : Bool) → inOrder p q r ≡ 0 → q ≡ true
+passed-4 true true r e = refl
+passed-4 true false r e = absurd (omega arith)
+passed-4 false q r e = absurd (omega arith)
+
+pub passed-7 : (p q r : Bool) → inOrder p q r ≡ 0 → r ≡ false
+passed-7 true true true e = absurd (omega arith)
+passed-7 true true false e = refl
+passed-7 true false r e = absurd (omega arith)
+passed-7 false q r e = absurd (omega arith)
+
+-- ---- what a table that is lent with its track is
+
+module _ (a : Track) (cs : List Cycle) (e : okLent a cs ≡ true) where
+  abbrev own : Bool
+  own = okCycles (cyclesOf a cs)
+
+  pub lent-lone : lone (a .notes) (a .waves) (a .sines) (cyclesOf a cs) ≡ true
+  unfolding okLent
+  lent-lone = right (okTrack a && own) (lone (a .notes) (a .waves) (a .sines) (cyclesOf a cs)) e
+
+  pub lent-track : okTrack a ≡ true
+  unfolding okLent
+  lent-track = left (okTrack a) own (left (okTrack a && own) (lone (a .notes) (a .waves) (a .sines) (cyclesOf a cs)) e)
+
+  pub lent-cycles : okCycles (cyclesOf a cs) ≡ true
+  unfolding okLent
+  lent-cycles = right (okTrack a) own (left (okTrack a && own) (lone (a .notes) (a .waves) (a .sines) (cyclesOf a cs)) e)
+
+  pub lent-counted : counted (a .cycles) places okCycle cs ≡ true
+  unfolding okCycles
+  lent-counted = lent-cycles
+
+-- the tests behind 4
+module _ (a : Track) (cs : List Cycle) (until : ℤ) (b : Budget) (e : (isTime until && okLent a cs && okBudget b) ≡ true) where
+  pub is-time : isTime until ≡ true
+  is-time = left (isTime until) (okLent a cs) (left (isTime until && okLent a cs) (okBudget b) e)
+
+  pub is-lent : okLent a cs ≡ true
+  is-lent = right (isTime until) (okLent a cs) (left (isTime until && okLent a cs) (okBudget b) e)
+
+  pub is-budget : okBudget b ≡ true
+  is-budget = right (isTime until && okLent a cs) (okBudget b) e
+
+-- ---- the number
+
+module _ (a : Track) (size : ℕ) (cs : List Cycle) (until : ℤ) (b : Budget) (l : List ℤ) (count : ℕ) where
+  abbrev events : List Event
+  events = leftBy a cs until b (eventsOf l count) .events
+
+  pub left-length : isList l count ≡ true → length events ≡ count + gainsOf a cs until b
+  unfolding calledState
+  left-length e =
+      call-count (turn (optionOf (a .options)) (a .channel)) until (record { table = usedOf a cs; budget = b; events = eventsOf l count })
+      ∙ ap (λ (n : ℕ). n + gainsOf a cs until b) (length-take-le count (rowsOf l) (list-within l count e))
+
+  -- 7 by division
+  pub quick : cycleRefusal a size cs until b l count ≡ quickRefusal a size cs until b (length l) count
+  unfolding cycleRefusal quickRefusal isList
+  quick = go (isList l count) refl
+    where
+      go : (t : Bool) → isList l count ≡ t → inOrder (t && eqb size places) (isTime until && okLent a cs && okBudget b) (ltb (length (rowsOf l)) (length events))
+          ≡ inOrder (t && eqb size places) (isTime until && okLent a cs && okBudget b) (ltb (length l / recordWidth) (count + gainsOf a cs until b))
+      go false e = refl
+      go true e = rw (length-rowsOf l, left-length e)
+
+  -- refused, all is as it was
+  pub refused : (cycleRefusal a size cs until b l count ≡ 0 → ⊥)
+      → (record { code = cycleRefusal a size cs until b l count; count = count; budget = b; cycles = cs } ≡ cycledOf a size cs until b l count)
+      × (l ≡ cycledList a size cs until b l count)
+  unfolding cycledOf cycledList
+  refused h = let n = ne-eqb (cycleRefusal a size cs until b l count) 0 h in (rw n, rw n)
+
+  module _ (e : cycleRefusal a size cs until b l count ≡ 0) where
+    tests : inOrder (isList l count && eqb size places) (isTime until && okLent a cs && okBudget b) (ltb (length (rowsOf l)) (length events)) ≡ 0
+    unfolding cycleRefusal
+    tests = e
+
+    pub listed : isList l count ≡ true
+    listed = left (isList l count) (eqb size places) (passed-1 (isList l count && eqb size places) (isTime until && okLent a cs && okBudget b) (ltb (length (rowsOf l)) (length events)) tests)
+
+    pub allowed : (isTime until && okLent a cs && okBudget b) ≡ true
+    allowed = passed-4 (isList l count && eqb size places) (isTime until && okLent a cs && okBudget b) (ltb (length (rowsOf l)) (length events)) tests
+
+    pub roomy : length events ≤ length (rowsOf l)
+    roomy = ltb-false (length (rowsOf l)) (length events) (passed-7 (isList l count && eqb size places) (isTime until && okLent a cs && okBudget b) (ltb (length (rowsOf l)) (length events)) tests)
+
+    pub answer : cycledOf a size cs until b l count
+        ≡ record { code = 0; count = length events; budget = leftBy a cs until b (eventsOf l count) .budget; cycles = leftBy a cs until b (eventsOf l count) .table ++ drop (a .cycles) cs }
+    unfolding cycledOf
+    answer = rw e
+
+    pub list-left : cycledList a size cs until b l count ≡ flat numbersOf (putFirst zeroEvent count events (rowsOf l))
+    unfolding cycledList
+    list-left = rw e
