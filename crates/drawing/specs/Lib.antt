@@ -1,3 +1,4 @@
 pub mod Options
 pub mod Frequency
 pub mod Write
+pub mod Calls

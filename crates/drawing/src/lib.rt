@@ -2,24 +2,39 @@
 // curve or a sine into the lent list. Each tests what it is handed in the order of document 01's table and takes the track
 // apart once. A call that refuses hands back what it was given.
 ghost use mathlib.Core.Path.{_≡_};
+ghost use mathlib.Core.Bool.{_&&_};
 ghost use Prim.Native.Nat.{_≤_, max};
+ghost use lib.ListN.{length};
 ghost use Rattle.laws.specs.Integers.{cut};
 ghost use Rattle.numbers.specs.Limits.{places};
+ghost use Rattle.numbers.specs.Ranges.{isTarget};
+ghost use Rattle.eventlist.specs.Sound.{isList, okEvents};
 ghost use Rattle.drawing.specs.Options.{optionOf, optionFor, left, setDelay, setRandom, setRange, clearRange, turned, notesTurned, setRepeat};
 ghost use Rattle.drawing.specs.Frequency.{bendFreq, freqFor};
 ghost use Rattle.drawing.specs.Write.{writeOf};
+ghost use Rattle.drawing.specs.Calls.{inOrder, Drawn, onTime, ccTarget, pbTarget, sineFor, onSine};
+use budget::Budget;
+use budget::budget_ok;
+use counted::curve_ok;
+use counted::numbers_of;
 use cycles::key_of;
+use eventlist::list_ok;
+use eventlist::records_ok;
 use numbers::is_length;
 use numbers::is_number;
 use numbers::is_random;
 use numbers::is_target;
+use sines::SineType;
 use state::Track;
 use state::TrackAnswer;
 use state::track_ok;
 use tables::NoteTable;
+use tables::OnNoteSine;
 use tables::OnNoteValues;
+use tables::sine_ok;
 use values::Write;
 use values::WriteOption;
+use writing::Outcome;
 
 // A target's option, or the refusal and an option in which nothing is set.
 #[repr(C)]
@@ -230,4 +245,143 @@ fn write_of(track: Track, target: i32) -> Write
         freq: freq,
         option: option,
     }
+}
+
+// The number that refuses a write, or 0: the list, the target, whether the arguments are short enough, and the numbers, of
+// which `usable` speaks for all but the events'.
+fn asked(target: i32, short: bool, usable: bool, events: &[i64], count: usize, store: usize) -> u32
+    ensures { λ r. ⌜ r ≡ inOrder (isList (now (events .entry)) count) (isTarget target) short (usable && okEvents store (now (events .entry)) count) 0 ⌝ }
+{
+    if !list_ok(events, count) {
+        return 1;
+    }
+    if !is_target(target) {
+        return 2;
+    }
+    if !short {
+        return 3;
+    }
+    if !(usable & records_ok(events, count, store)) {
+        return 4;
+    }
+    0
+}
+
+// Writes a curve at the track's time: `list` is triples of a low, a high and a length. Answers the new count and the budget;
+// the target's events within the curve's length are taken out, the new ones stand behind the others.
+// Refuses 1, 2, 3, 4, 7.
+pub fn write_on_time(
+    track: Track,
+    target: i32,
+    list: &[i32],
+    budget: Budget,
+    events: &mut [i64],
+    count: usize,
+    store: &[u8],
+) -> Outcome
+    ensures { λ r. ⌜ Drawn (onTime track target (now (list .entry)) budget (now (events .entry)) count (length (now (store .entry)))) r (now (events .exit)) ⌝ }
+{
+    let listed = numbers_of(list);
+    let numbers = listed.list;
+    let usable = track_ok(track) & budget_ok(budget) & curve_ok(numbers);
+    let code = asked(target, listed.code == 0, usable, events, count, store.len());
+    if code != 0 {
+        return Outcome {
+            code: code,
+            count: count,
+            budget: budget,
+        };
+    }
+    let w = write_of(track, target);
+    writing::write_curve(w, budget, list, events, count)
+}
+
+// The target of a controller's number; a number that is none names no target.
+pub fn cc_target(number: i32) -> i32
+    ensures { λ r. ⌜ r ≡ ccTarget number ⌝ }
+{
+    match number {
+        0..=127 => number,
+        _ => -1,
+    }
+}
+
+// The target of a bend's argument: 0 is the small one.
+pub fn pb_target(is_big: i32) -> i32
+    ensures { λ r. ⌜ r ≡ pbTarget «is_big» ⌝ }
+{
+    match is_big {
+        0 => 128,
+        _ => 129,
+    }
+}
+
+// `write_on_time` of a controller by its number. Refuses 1, 2, 3, 4, 7.
+pub fn write_cc_on_time(
+    track: Track,
+    number: i32,
+    list: &[i32],
+    budget: Budget,
+    events: &mut [i64],
+    count: usize,
+    store: &[u8],
+) -> Outcome
+    ensures { λ r. ⌜ Drawn (onTime track (ccTarget number) (now (list .entry)) budget (now (events .entry)) count (length (now (store .entry)))) r (now (events .exit)) ⌝ }
+{
+    write_on_time(track, cc_target(number), list, budget, events, count, store)
+}
+
+// `write_on_time` of the bend. Refuses 1, 3, 4, 7.
+pub fn write_pb_on_time(
+    track: Track,
+    is_big: i32,
+    list: &[i32],
+    budget: Budget,
+    events: &mut [i64],
+    count: usize,
+    store: &[u8],
+) -> Outcome
+    ensures { λ r. ⌜ Drawn (onTime track (pbTarget «is_big») (now (list .entry)) budget (now (events .entry)) count (length (now (store .entry)))) r (now (events .exit)) ⌝ }
+{
+    write_on_time(track, pb_target(is_big), list, budget, events, count, store)
+}
+
+// Writes a sine at the track's time, `times` turns of `len` steps from `low` to `high`; `shape` is 0 for a full turn, 1 and 2
+// for the quarter up and down. Answers and leaves as `write_on_time`; a length of 0 or less changes nothing, times of 0 or
+// less count once. Refuses 1, 2, 4, 7.
+pub fn write_sine(
+    track: Track,
+    target: i32,
+    shape: u32,
+    low: i32,
+    high: i32,
+    len: i32,
+    times: i32,
+    budget: Budget,
+    events: &mut [i64],
+    count: usize,
+    store: &[u8],
+) -> Outcome
+    ensures { λ r. ⌜ Drawn (onSine track (sineFor target shape low high len times) budget (now (events .entry)) count (length (now (store .entry)))) r (now (events .exit)) ⌝ }
+{
+    let sine = OnNoteSine {
+        target: target,
+        shape: shape,
+        low: low,
+        high: high,
+        length: len,
+        times: times,
+    };
+    let usable = track_ok(track) & budget_ok(budget) & sine_ok(sine);
+    let code = asked(target, true, usable, events, count, store.len());
+    if code != 0 {
+        return Outcome {
+            code: code,
+            count: count,
+            budget: budget,
+        };
+    }
+    let w = write_of(track, target);
+    let stype = SineType::from_i(shape as i64);
+    writing::write_sine(w, budget, stype, low, high, len, times, events, count)
 }

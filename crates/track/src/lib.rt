@@ -57,6 +57,15 @@ pub use drawing::set_range;
 pub use drawing::set_repeat;
 pub use values::WriteOption;
 
+// ---- what is written at the track's time, and at its cycles'
+pub use cycling::Cycled;
+pub use cycling::write_cc_on_cycle;
+pub use drawing::write_cc_on_time;
+pub use drawing::write_on_time;
+pub use drawing::write_pb_on_time;
+pub use drawing::write_sine;
+pub use writing::Outcome;
+
 // ---- the event list
 pub use cutting::CcValue;
 pub use cutting::full_cut;

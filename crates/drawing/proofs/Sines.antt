@@ -1,0 +1,46 @@
+-- What the test of a sine says of its numbers, as a write asks it.
+use mathlib.Core.Path.{_≡_}
+use mathlib.Core.Bool.{Bool, true, _&&_}
+use Prim.Native.Nat.{_≤_, _^_}
+use lib.Dec.{leb}
+use lib.Signed.{mag}
+use Rattle.laws.proofs.Ranges.{left, right, sized-mag}
+use Rattle.numbers.specs.Ranges.{isTarget, isSineEnd, isLength}
+use Rattle.tables.specs.declared.OnNoteSine.{OnNoteSine}
+use Rattle.tables.specs.Reservations.{okSine}
+
+module _ (s : OnNoteSine) (e : okSine s ≡ true) where
+  abbrev two : Bool
+  two = isTarget (s .target) && leb (s .shape) 2
+
+  abbrev three : Bool
+  three = two && isSineEnd (s .low)
+
+  abbrev four : Bool
+  four = three && isSineEnd (s .high)
+
+  abbrev five : Bool
+  five = four && isLength (s .length)
+
+  to-five : five ≡ true
+  unfolding okSine
+  to-five = left five (isLength (s .times)) e
+
+  to-four : four ≡ true
+  to-four = left four (isLength (s .length)) to-five
+
+  pub sine-low : mag (s .low) ≤ 16383
+  unfolding isSineEnd
+  sine-low = sized-mag 16383 (s .low) (right two (isSineEnd (s .low)) (left three (isSineEnd (s .high)) to-four))
+
+  pub sine-high : mag (s .high) ≤ 16383
+  unfolding isSineEnd
+  sine-high = sized-mag 16383 (s .high) (right three (isSineEnd (s .high)) to-four)
+
+  pub sine-length : mag (s .length) ≤ 2 ^ 20
+  unfolding isLength
+  sine-length = sized-mag (2 ^ 20) (s .length) (right four (isLength (s .length)) to-five)
+
+  pub sine-times : mag (s .times) ≤ 2 ^ 20
+  unfolding okSine isLength
+  sine-times = sized-mag (2 ^ 20) (s .times) (right five (isLength (s .times)) e)
