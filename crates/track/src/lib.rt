@@ -57,6 +57,22 @@ pub use drawing::set_range;
 pub use drawing::set_repeat;
 pub use values::WriteOption;
 
+// ---- what is reserved for a target's notes and times
+pub use reserving::Kept;
+pub use reserving::remove_cc_on;
+pub use reserving::remove_cc_on_note;
+pub use reserving::remove_cc_on_note_wave;
+pub use reserving::remove_pb_on_note_wave;
+pub use reserving::remove_reserve;
+pub use reserving::set_cc_on_note;
+pub use reserving::set_cc_on_note_wave;
+pub use reserving::set_on_cycle;
+pub use reserving::set_on_note;
+pub use reserving::set_on_note_sine;
+pub use reserving::set_on_note_wave;
+pub use reserving::set_pb_on_note_wave;
+pub use tables::OnNoteSine;
+
 // ---- what is written at the track's time, and at its cycles'
 pub use cycling::Cycled;
 pub use cycling::write_cc_on_cycle;

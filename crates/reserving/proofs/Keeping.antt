@@ -1,0 +1,145 @@
+-- What an accepted call leaves passes the test of a track with its cycle table, so that the next call does not refuse it.
+--     with-tables   tables that pass their own tests, one reservation for a target over all four
+--     cleared-kept  once a target is taken out
+--     note-kept, wave-kept, sine-kept, cycle-kept   once one is put in again
+use mathlib.Core.Path.{_≡_, refl, sym, ap, _∙_}
+use mathlib.Core.Bool.{Bool, true, false, _&&_}
+use mathlib.Core.List.{List, [], _∷_, _++_, append-nil}
+use Prim.Native.Nat.{ℕ, _+_, _≤_, _<_}
+use native.Mathlib.Omega.{arith}
+use borrow.Author.Tests.{le-leb}
+use lib.Dec.{leb}
+use lib.ListN.{length, length-append}
+use Rattle.laws.specs.Lists.{all, putFirst}
+use Rattle.laws.specs.Keys.{absent, distinct}
+use Rattle.laws.proofs.Ranges.{left, right}
+use Rattle.numbers.specs.Limits.{places}
+use Rattle.cycles.specs.declared.Cycle.{Cycle}
+use Rattle.cycles.specs.Due.{key}
+use Rattle.cycles.specs.Rules.{okCycle}
+use Rattle.tables.specs.declared.OnNoteValues.{OnNoteValues}
+use Rattle.tables.specs.declared.OnNoteWave.{OnNoteWave}
+use Rattle.tables.specs.declared.OnNoteSine.{OnNoteSine}
+use Rattle.tables.specs.declared.NoteTable.{NoteTable}
+use Rattle.tables.specs.declared.WaveTable.{WaveTable}
+use Rattle.tables.specs.declared.SineTable.{SineTable}
+use Rattle.tables.specs.declared.CycleTable.{CycleTable}
+use Rattle.tables.specs.Reservations.{okValues, okWave, okSine}
+use Rattle.tables.specs.Tables.{noNote, noWave, noSine, noCycle, noteAt, waveAt, sineAt, cycleAt, notesLeft, wavesLeft, sinesLeft, cyclesLeft, notesWithout, wavesWithout, sinesWithout, cyclesWithout, notesWith, wavesWith, sinesWith, cyclesWith, okNotes, okWaves, okSines, okCycles, noteKeys, waveKeys, sineKeys, cycleKeys, lone}
+use Rattle.tables.proofs.Keeping.{counted-without, counted-with, lone-taken, lone-note, lone-wave, lone-sine, lone-cycle}
+use Rattle.state.specs.declared.Track.{Track}
+use Rattle.state.specs.Track.{noCycles, cyclesOf, withTables}
+use Rattle.state.specs.Tests.{okTables, okPlay, okTrack, okLent}
+use Rattle.state.proofs.Counts.{few-cycles}
+use Rattle.state.proofs.Parts.{whole, track-play, track-params, track-layers, track-options}
+use Rattle.state.proofs.Stored.{stored-notes, stored-waves, stored-sines}
+use Rattle.reserving.specs.declared.Kept.{Kept}
+use Rattle.reserving.specs.Clearing.{cleared}
+use Rattle.reserving.specs.Setting.{withNote, withWave, withSine, withCycle}
+use Rattle.reserving.proofs.Lent.{lent-track, lent-cycles, lent-lone, lent-whole}
+
+-- the track and the table that a call left may be used
+abbrev pub Passes : Kept → Type 0
+Passes r = okLent (r .track) (r .cycles) ≡ true
+
+-- ---- keys of which some are left out still stand once
+all-first : {A : Type 0} (p : A → Bool) (xs ys : List A) → all p (xs ++ ys) ≡ true → all p xs ≡ true
+unfolding all
+all-first p [] ys e = refl
+all-first p (x ∷ xs) ys e = rw (left (p x) (all p (xs ++ ys)) e) (all-first p xs ys (right (p x) (all p (xs ++ ys)) e))
+
+distinct-first : (xs ys : List ℕ) → distinct (xs ++ ys) ≡ true → distinct xs ≡ true
+unfolding distinct absent
+distinct-first [] ys e = refl
+distinct-first (x ∷ xs) ys e =
+    rw (all-first _ xs ys (left (absent x (xs ++ ys)) (distinct (xs ++ ys)) e)) (distinct-first xs ys (right (absent x (xs ++ ys)) (distinct (xs ++ ys)) e))
+
+-- "over all four kinds" is more than over the three that a track holds
+lone-three : (n : NoteTable) (w : WaveTable) (s : SineTable) (y : CycleTable) → lone n w s y ≡ true → lone n w s noCycles ≡ true
+unfolding lone
+lone-three n w s y e =
+    ap distinct (append-nil (noteKeys n ++ waveKeys w ++ sineKeys s)) ∙ distinct-first (noteKeys n ++ waveKeys w ++ sineKeys s) (cycleKeys y) e
+
+-- ---- a track with other tables
+module _ (a : Track) (e : okTrack a ≡ true) (n : NoteTable) (w : WaveTable) (s : SineTable) where
+  module _ (p : okNotes n ≡ true) (q : okWaves w ≡ true) (r : okSines s ≡ true) where
+    pub track-kept : (c : ℕ) → c ≤ places → lone n w s noCycles ≡ true → okTrack (withTables a n w s c) ≡ true
+    unfolding okTables okPlay
+    track-kept c h l =
+        whole (withTables a n w s c) (track-play a e) (track-params a e) (track-layers a e) (track-options a e) (rw (p, q, r, l)) (le-leb c places h)
+
+    pub with-tables : (y : CycleTable) → okCycles y ≡ true → lone n w s y ≡ true → okLent (withTables a n w s (y .count)) (y .items) ≡ true
+    with-tables y c l =
+        lent-whole (withTables a n w s (y .count)) (y .items) (track-kept (y .count) (few-cycles y c) (lone-three n w s y l)) c l
+
+-- ---- once a target is out, and one is put in again
+module _ (a : Track) (cs : List Cycle) (k : ℕ) (e : okLent a cs ≡ true) where
+  t : okTrack a ≡ true
+  t = lent-track a cs e
+
+  abbrev n : NoteTable
+  n = notesWithout (a .notes) k
+
+  abbrev w : WaveTable
+  w = wavesWithout (a .waves) k
+
+  abbrev s : SineTable
+  s = sinesWithout (a .sines) k
+
+  abbrev y : CycleTable
+  y = cyclesWithout (cyclesOf a cs) k
+
+  notes-ok : okNotes n ≡ true
+  unfolding okNotes
+  notes-ok = counted-without noNote (a .notes .count) (a .notes .items) okValues places (stored-notes a t) (noteAt k)
+
+  waves-ok : okWaves w ≡ true
+  unfolding okWaves
+  waves-ok = counted-without noWave (a .waves .count) (a .waves .items) okWave places (stored-waves a t) (waveAt k)
+
+  sines-ok : okSines s ≡ true
+  unfolding okSines
+  sines-ok = counted-without noSine (a .sines .count) (a .sines .items) okSine places (stored-sines a t) (sineAt k)
+
+  cycles-ok : okCycles y ≡ true
+  unfolding okCycles
+  cycles-ok = counted-without noCycle (a .cycles) cs okCycle places (lent-cycles a cs e) (cycleAt k)
+
+  alone : lone (a .notes) (a .waves) (a .sines) (cyclesOf a cs) ≡ true
+  alone = lent-lone a cs e
+
+  -- what is put first fits
+  fitting : {A : Type 0} (z : A) (c : ℕ) (now l : List A) → length now ≤ length (putFirst z c now l)
+  fitting z c now l = rw length-append (omega arith)
+
+  pub cleared-kept : Passes (cleared a cs k)
+  unfolding cleared
+  cleared-kept = with-tables a t n w s notes-ok waves-ok sines-ok y cycles-ok (lone-taken (a .notes) (a .waves) (a .sines) (cyclesOf a cs) k alone)
+
+  pub note-kept : (x : OnNoteValues) → okValues x ≡ true → key (x .target) ≡ k → n .count < places → Passes (withNote x (cleared a cs k))
+  unfolding cleared okNotes
+  note-kept x o q h =
+      with-tables a t (notesWith n x) w s
+      (counted-with noNote (n .count) (n .items) okValues places notes-ok x h (fitting noNote (a .notes .count) (notesLeft (a .notes) k) (a .notes .items)) o)
+      waves-ok sines-ok y cycles-ok (lone-note (a .notes) (a .waves) (a .sines) (cyclesOf a cs) k alone x q)
+
+  pub wave-kept : (x : OnNoteWave) → okWave x ≡ true → key (x .target) ≡ k → w .count < places → Passes (withWave x (cleared a cs k))
+  unfolding cleared okWaves
+  wave-kept x o q h =
+      with-tables a t n (wavesWith w x) s notes-ok
+      (counted-with noWave (w .count) (w .items) okWave places waves-ok x h (fitting noWave (a .waves .count) (wavesLeft (a .waves) k) (a .waves .items)) o)
+      sines-ok y cycles-ok (lone-wave (a .notes) (a .waves) (a .sines) (cyclesOf a cs) k alone x q)
+
+  pub sine-kept : (x : OnNoteSine) → okSine x ≡ true → key (x .target) ≡ k → s .count < places → Passes (withSine x (cleared a cs k))
+  unfolding cleared okSines
+  sine-kept x o q h =
+      with-tables a t n w (sinesWith s x) notes-ok waves-ok
+      (counted-with noSine (s .count) (s .items) okSine places sines-ok x h (fitting noSine (a .sines .count) (sinesLeft (a .sines) k) (a .sines .items)) o)
+      y cycles-ok (lone-sine (a .notes) (a .waves) (a .sines) (cyclesOf a cs) k alone x q)
+
+  pub cycle-kept : (x : Cycle) → okCycle x ≡ true → key (x .target) ≡ k → y .count < places → Passes (withCycle x (cleared a cs k))
+  unfolding cleared okCycles
+  cycle-kept x o q h =
+      with-tables a t n w s notes-ok waves-ok sines-ok (cyclesWith y x)
+      (counted-with noCycle (y .count) (y .items) okCycle places cycles-ok x h (fitting noCycle (a .cycles) (cyclesLeft (cyclesOf a cs) k) cs) o)
+      (lone-cycle (a .notes) (a .waves) (a .sines) (cyclesOf a cs) k alone x q)

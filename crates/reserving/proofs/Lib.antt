@@ -1,0 +1,5 @@
+pub mod Lent
+pub mod Refusing
+pub mod Settling
+pub mod Alone
+pub mod Keeping

@@ -1,0 +1,33 @@
+-- `put_in_sines`: the second step of a setter, with a sine.
+use mathlib.Core.Path.{ap, _∙_}
+use borrow.Author.Needs.{needs}
+use borrow.Author.Tests.{le-ltb, lt-ltb}
+use Rattle.tables.specs.declared.SineTable.{SineTable}
+use Rattle.state.specs.Track.{withTables}
+use Rattle.reserving.specs.Clearing.{answer}
+use Rattle.reserving.specs.Setting.{sineRoom, withSine}
+use Rattle.reserving.proofs.Settling.{passed-on, no-place, put-in}
+use Rattle.reserving.proofs.put_in_sines.Statement.{statement}
+use Rattle.reserving.proofs.put_in_sines.Tie as tie
+
+returns : tie.Need-returns
+returns c = passed-on _ _ sineRoom _ _ (c .if1 .taken)
+
+returns-2 : tie.Need-returns-2
+returns-2 c = no-place _ _ sineRoom (withSine _) _ (c .before .before .before .before .if1 .left) (le-ltb _ _ (c .if2 .taken))
+
+put-sine-requires : tie.Need-put-sine-requires
+put-sine-requires c κs = search needs
+
+returns-3 : tie.Need-returns-3
+returns-3 c =
+    let p = c .before in
+    let e = p .before in
+    let free = e .before .before .before .before in
+    let s = free .before .before .args in
+    let a = s .free .track in
+    ap (λ (t : SineTable). answer 0 (withTables a (a .notes) (a .waves) t (a .cycles)) (s .free .cycles)) (p .put-sine .ensures)
+    ∙ put-in (s .track) (s .cycles) sineRoom (withSine (s .e)) (s .free) (free .if1 .left) (lt-ltb _ _ (e .if2 .left))
+
+pub put-in-sines-spec : {M : Type 1} → statement M
+put-in-sines-spec = tie.close (tie.spec returns returns-2 put-sine-requires returns-3)

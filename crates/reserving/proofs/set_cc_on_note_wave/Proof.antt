@@ -1,0 +1,28 @@
+-- `set_cc_on_note_wave`: `set_on_note_wave` of the number as a target.
+use mathlib.Core.Path.{ap, _∙_}
+use borrow.Author.Needs.{needs, sfits-of}
+use lib.IntN.{ℤ}
+use mir.Syntax.{w32}
+use mir.Val.{SFits}
+use mir.Facts.{toZ-ofZ}
+use Rattle.reserving.specs.Setting.{setOnNoteWave}
+use Rattle.reserving.specs.Old.{controllerTarget}
+use Rattle.reserving.proofs.set_cc_on_note_wave.Statement.{statement}
+use Rattle.reserving.proofs.set_cc_on_note_wave.Tie as tie
+
+controller-requires : tie.Need-controller-requires
+controller-requires c κs = search needs
+
+set-on-note-wave-requires : tie.Need-set-on-note-wave-requires
+set-on-note-wave-requires c κs = search needs
+
+returns : tie.Need-returns
+returns c =
+    let t = c .before in
+    let s = t .before in
+    let f : SFits w32 (t .controller .result) = sfits-of (t .controller .ok) in
+    c .set-on-note-wave .ensures
+    ∙ ap (λ (z : ℤ). setOnNoteWave (s .args .track) (s .args .size) (s .args .cycles) z 0 (s .args .list .now)) (toZ-ofZ f ∙ t .controller .ensures ∙ ap controllerTarget (toZ-ofZ (s .fits .number)))
+
+pub set-cc-on-note-wave-spec : {M : Type 1} → statement M
+set-cc-on-note-wave-spec = tie.close (tie.spec controller-requires set-on-note-wave-requires returns)

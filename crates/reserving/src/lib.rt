@@ -1,0 +1,455 @@
+// What is set ahead for a target's notes and times: a list for notes, a wave or a sine for each note, a cycle. A target has
+// one reservation over all four kinds, so that every setter first takes its old ones out and then puts one at the end. A call
+// is handed the track, the sixteen cycle records by value and how many were lent; refused, it hands back what it was given.
+ghost use mathlib.Core.Path.{_≡_};
+ghost use mathlib.Core.Bool.{true};
+ghost use Rattle.state.specs.Tests.{okLent};
+ghost use Rattle.reserving.specs.Clearing.{refusal, cleared, freed, placed};
+ghost use Rattle.reserving.specs.Setting.{repeatOf, noteRoom, waveRoom, sineRoom, cycleRoom, withNote, withWave, withSine, withCycle, removeReserve, setOnNote, setOnNoteWave, setOnNoteSine, setOnCycle};
+ghost use Rattle.reserving.specs.Old.{controllerTarget, bendTarget, removeCcOn, setCcOnNote, setCcOnNoteWave, setPbOnNoteWave, removePbOnNoteWave, aloneRefusal, removeCcOnNote, removeCcOnNoteWave};
+ghost use lib.IntN.{pos};
+use counted::numbers_of;
+use counted::numbers_ok;
+use cycles::Cycle;
+use cycles::PLACES;
+use cycles::key_of;
+use numbers::is_length;
+use numbers::is_target;
+use state::Track;
+use state::TrackAnswer;
+use state::cycles_of;
+use state::lent_ok;
+use state::track_ok;
+use tables::NORMAL;
+use tables::OnNoteSine;
+use tables::OnNoteValues;
+use tables::OnNoteWave;
+use tables::note_ok;
+use tables::put_cycle;
+use tables::put_note;
+use tables::put_sine;
+use tables::put_wave;
+use tables::sine_ok;
+use tables::take_cycle;
+use tables::take_note;
+use tables::take_sine;
+use tables::take_wave;
+use tables::wave_ok;
+
+// The track and the cycle table as a call leaves them.
+#[repr(C)]
+pub struct Kept {
+    pub code: u32,
+    pub track: Track,
+    pub cycles: [Cycle; PLACES],
+}
+
+// The number of a call, as far as it can be told before the old reservations are out: 1, 2, 3, 4 in this order.
+fn asked(
+    track: Track,
+    size: usize,
+    cycles: [Cycle; PLACES],
+    target: i32,
+    short: bool,
+    ok: bool,
+) -> u32
+    ensures { λ r. ⌜ r ≡ refusal track size cycles target short ok true ⌝ }
+{
+    if size != PLACES {
+        return 1;
+    }
+    if !is_target(target) {
+        return 2;
+    }
+    if !short {
+        return 3;
+    }
+    if !(lent_ok(track, cycles) & ok) {
+        return 4;
+    }
+    0
+}
+
+// The track and the table without the target of key `k`, of whatever kind.
+fn cleared(mut track: Track, cycles: [Cycle; PLACES], k: usize) -> Kept
+    requires { ⌜ okLent track cycles ≡ true ⌝ }
+    ensures { λ r. ⌜ r ≡ cleared track cycles k ⌝ }
+{
+    let own = cycles_of(track, cycles);
+    let rest = take_cycle(own, k);
+    track.notes = take_note(track.notes, k);
+    track.waves = take_wave(track.waves, k);
+    track.sines = take_sine(track.sines, k);
+    track.cycles = rest.count;
+    let items = rest.items;
+    Kept {
+        code: 0,
+        track: track,
+        cycles: items,
+    }
+}
+
+// What every setter does first: the tests, and then the old reservations are taken out.
+fn freed(
+    track: Track,
+    size: usize,
+    cycles: [Cycle; PLACES],
+    target: i32,
+    short: bool,
+    ok: bool,
+) -> Kept
+    ensures { λ r. ⌜ r ≡ freed track size cycles target short ok ⌝ }
+{
+    let code = asked(track, size, cycles, target, short, ok);
+    if code != 0 {
+        return Kept {
+            code: code,
+            track: track,
+            cycles: cycles,
+        };
+    }
+    let k = key_of(target);
+    cleared(track, cycles, k)
+}
+
+// Nothing stays reserved for a target, of whatever kind. Refuses 1, 2, 4.
+pub fn remove_reserve(track: Track, size: usize, cycles: [Cycle; PLACES], target: i32) -> Kept
+    ensures { λ r. ⌜ r ≡ removeReserve track size cycles target ⌝ }
+{
+    freed(track, size, cycles, target, true, true)
+}
+
+// One list more for notes, where a place is left; `free` is the track and the table without the target's old ones.
+fn put_in_notes(track: Track, cycles: [Cycle; PLACES], free: Kept, e: OnNoteValues) -> Kept
+    ensures { λ r. ⌜ r ≡ placed track cycles noteRoom (withNote e) free ⌝ }
+{
+    if free.code != 0 {
+        return free;
+    }
+    let mut left = free.track;
+    let table = left.notes;
+    if PLACES <= table.count {
+        return Kept {
+            code: 6,
+            track: track,
+            cycles: cycles,
+        };
+    }
+    left.notes = put_note(table, e);
+    let items = free.cycles;
+    Kept {
+        code: 0,
+        track: left,
+        cycles: items,
+    }
+}
+
+// Whether the lists of a target's notes go round.
+fn repeat_of(track: Track, target: i32) -> u32
+    ensures { λ r. ⌜ r ≡ repeatOf track target ⌝ }
+{
+    let k = key_of(target);
+    let option = track.options[k];
+    option.repeat
+}
+
+// Reserves a value of a target for each of the next notes, round and round where its repeat stands. Refuses 1, 2, 3, 4, 6.
+pub fn set_on_note(
+    track: Track,
+    size: usize,
+    cycles: [Cycle; PLACES],
+    target: i32,
+    list: &[i32],
+) -> Kept
+    ensures { λ r. ⌜ r ≡ setOnNote track size cycles target (now (list .entry)) ⌝ }
+{
+    let listed = numbers_of(list);
+    let values = listed.list;
+    let e = OnNoteValues {
+        target: target,
+        index: 0,
+        cycling: repeat_of(track, target),
+        values: values,
+    };
+    let free = freed(track, size, cycles, target, listed.code == 0, note_ok(e));
+    put_in_notes(track, cycles, free, e)
+}
+
+// The same with a wave.
+fn put_in_waves(track: Track, cycles: [Cycle; PLACES], free: Kept, e: OnNoteWave) -> Kept
+    ensures { λ r. ⌜ r ≡ placed track cycles waveRoom (withWave e) free ⌝ }
+{
+    if free.code != 0 {
+        return free;
+    }
+    let mut left = free.track;
+    let table = left.waves;
+    if PLACES <= table.count {
+        return Kept {
+            code: 6,
+            track: track,
+            cycles: cycles,
+        };
+    }
+    left.waves = put_wave(table, e);
+    let items = free.cycles;
+    Kept {
+        code: 0,
+        track: left,
+        cycles: items,
+    }
+}
+
+// Reserves a curve for each note of a target: low, high and length by threes, used as it is (`NORMAL`), stretched to the note
+// (`EXPAND`) or gone through again and again (`REPEAT`). Refuses 1, 2, 3, 4, 6.
+pub fn set_on_note_wave(
+    track: Track,
+    size: usize,
+    cycles: [Cycle; PLACES],
+    target: i32,
+    mode: u32,
+    list: &[i32],
+) -> Kept
+    ensures { λ r. ⌜ r ≡ setOnNoteWave track size cycles target mode (now (list .entry)) ⌝ }
+{
+    let listed = numbers_of(list);
+    let values = listed.list;
+    let e = OnNoteWave {
+        target: target,
+        mode: mode,
+        values: values,
+    };
+    let free = freed(track, size, cycles, target, listed.code == 0, wave_ok(e));
+    put_in_waves(track, cycles, free, e)
+}
+
+// The same with a sine.
+fn put_in_sines(track: Track, cycles: [Cycle; PLACES], free: Kept, e: OnNoteSine) -> Kept
+    ensures { λ r. ⌜ r ≡ placed track cycles sineRoom (withSine e) free ⌝ }
+{
+    if free.code != 0 {
+        return free;
+    }
+    let mut left = free.track;
+    let table = left.sines;
+    if PLACES <= table.count {
+        return Kept {
+            code: 6,
+            track: track,
+            cycles: cycles,
+        };
+    }
+    left.sines = put_sine(table, e);
+    let items = free.cycles;
+    Kept {
+        code: 0,
+        track: left,
+        cycles: items,
+    }
+}
+
+// Reserves a sine for each note of a target, which the sine has to name. Refuses 1, 2, 4, 6.
+pub fn set_on_note_sine(
+    track: Track,
+    size: usize,
+    cycles: [Cycle; PLACES],
+    target: i32,
+    sine: OnNoteSine,
+) -> Kept
+    ensures { λ r. ⌜ r ≡ setOnNoteSine track size cycles target sine ⌝ }
+{
+    let a = sine_ok(sine);
+    let named = key_of(sine.target);
+    let k = key_of(target);
+    let free = freed(track, size, cycles, target, true, a & (named == k));
+    put_in_sines(track, cycles, free, sine)
+}
+
+// The same with a cycle, which stands in the lent table.
+fn put_in_cycles(track: Track, cycles: [Cycle; PLACES], free: Kept, e: Cycle) -> Kept
+    ensures { λ r. ⌜ r ≡ placed track cycles cycleRoom (withCycle e) free ⌝ }
+{
+    if free.code != 0 {
+        return free;
+    }
+    let mut left = free.track;
+    let items = free.cycles;
+    let table = cycles_of(left, items);
+    if PLACES <= table.count {
+        return Kept {
+            code: 6,
+            track: track,
+            cycles: cycles,
+        };
+    }
+    let after = put_cycle(table, e);
+    left.cycles = after.count;
+    let more = after.items;
+    Kept {
+        code: 0,
+        track: left,
+        cycles: more,
+    }
+}
+
+// Reserves a target's values at every `length` of time, from the track's time on; with a length of 0 or less, or no values,
+// nothing stays reserved. Refuses 1, 2, 3, 4, 6.
+pub fn set_on_cycle(
+    track: Track,
+    size: usize,
+    cycles: [Cycle; PLACES],
+    target: i32,
+    length: i32,
+    list: &[i32],
+) -> Kept
+    ensures { λ r. ⌜ r ≡ setOnCycle track size cycles target length (now (list .entry)) ⌝ }
+{
+    let listed = numbers_of(list);
+    let values = listed.list;
+    let a = is_length(length);
+    let b = numbers_ok(values);
+    let free = freed(track, size, cycles, target, listed.code == 0, a & b);
+    let empty = values.count == 0;
+    if (length <= 0) | empty {
+        return free;
+    }
+    let e = Cycle {
+        target: target,
+        length: length,
+        next: track.timepos,
+        index: 0,
+        values: values,
+    };
+    put_in_cycles(track, cycles, free, e)
+}
+
+// A controller's number as a target; -1, which is none, for any other.
+fn controller(number: i32) -> i32
+    ensures { λ r. ⌜ r ≡ controllerTarget number ⌝ }
+{
+    match number {
+        0..=127 => number,
+        _ => -1,
+    }
+}
+
+// The target of a bend by its argument.
+fn bend(big: i32) -> i32
+    ensures { λ r. ⌜ r ≡ bendTarget big ⌝ }
+{
+    match big {
+        0 => 128,
+        _ => 129,
+    }
+}
+
+// The older calls. `remove_reserve` of a controller. Refuses 1, 2, 4.
+pub fn remove_cc_on(track: Track, size: usize, cycles: [Cycle; PLACES], number: i32) -> Kept
+    ensures { λ r. ⌜ r ≡ removeCcOn track size cycles number ⌝ }
+{
+    let target = controller(number);
+    remove_reserve(track, size, cycles, target)
+}
+
+// `set_on_note` of a controller. Refuses 1, 2, 3, 4, 6.
+pub fn set_cc_on_note(
+    track: Track,
+    size: usize,
+    cycles: [Cycle; PLACES],
+    number: i32,
+    list: &[i32],
+) -> Kept
+    ensures { λ r. ⌜ r ≡ setCcOnNote track size cycles number (now (list .entry)) ⌝ }
+{
+    let target = controller(number);
+    set_on_note(track, size, cycles, target, list)
+}
+
+// `set_on_note_wave` of a controller, the wave used as it is. Refuses 1, 2, 3, 4, 6.
+pub fn set_cc_on_note_wave(
+    track: Track,
+    size: usize,
+    cycles: [Cycle; PLACES],
+    number: i32,
+    list: &[i32],
+) -> Kept
+    ensures { λ r. ⌜ r ≡ setCcOnNoteWave track size cycles number (now (list .entry)) ⌝ }
+{
+    let target = controller(number);
+    set_on_note_wave(track, size, cycles, target, NORMAL, list)
+}
+
+// `set_on_note_wave` of a bend by its argument, the wave used as it is. Refuses 1, 3, 4, 6.
+pub fn set_pb_on_note_wave(
+    track: Track,
+    size: usize,
+    cycles: [Cycle; PLACES],
+    big: i32,
+    list: &[i32],
+) -> Kept
+    ensures { λ r. ⌜ r ≡ setPbOnNoteWave track size cycles big (now (list .entry)) ⌝ }
+{
+    let target = bend(big);
+    set_on_note_wave(track, size, cycles, target, NORMAL, list)
+}
+
+// `remove_reserve` of both bends. Refuses 1, 4.
+pub fn remove_pb_on_note_wave(track: Track, size: usize, cycles: [Cycle; PLACES]) -> Kept
+    ensures { λ r. ⌜ r ≡ removePbOnNoteWave track size cycles ⌝ }
+{
+    remove_reserve(track, size, cycles, 129)
+}
+
+// The number of a call that is handed the track alone: 2, then 4.
+fn asked_alone(track: Track, target: i32) -> u32
+    ensures { λ r. ⌜ r ≡ aloneRefusal track target ⌝ }
+{
+    if !is_target(target) {
+        return 2;
+    }
+    if !track_ok(track) {
+        return 4;
+    }
+    0
+}
+
+// No list for notes stays reserved for a controller; what is of another kind stays. Refuses 2, 4.
+pub fn remove_cc_on_note(mut track: Track, number: i32) -> TrackAnswer
+    ensures { λ r. ⌜ r ≡ removeCcOnNote track number ⌝ }
+{
+    let target = controller(number);
+    let code = asked_alone(track, target);
+    if code != 0 {
+        return TrackAnswer {
+            code: code,
+            track: track,
+        };
+    }
+    let k = key_of(target);
+    track.notes = take_note(track.notes, k);
+    TrackAnswer {
+        code: 0,
+        track: track,
+    }
+}
+
+// No wave and no sine stays reserved for a controller; what is of another kind stays. Refuses 2, 4.
+pub fn remove_cc_on_note_wave(mut track: Track, number: i32) -> TrackAnswer
+    ensures { λ r. ⌜ r ≡ removeCcOnNoteWave track number ⌝ }
+{
+    let target = controller(number);
+    let code = asked_alone(track, target);
+    if code != 0 {
+        return TrackAnswer {
+            code: code,
+            track: track,
+        };
+    }
+    let k = key_of(target);
+    track.waves = take_wave(track.waves, k);
+    track.sines = take_sine(track.sines, k);
+    TrackAnswer {
+        code: 0,
+        track: track,
+    }
+}
