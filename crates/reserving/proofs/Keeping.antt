@@ -2,18 +2,26 @@
 --     with-tables   tables that pass their own tests, one reservation for a target over all four
 --     cleared-kept  once a target is taken out
 --     note-kept, wave-kept, sine-kept, cycle-kept   once one is put in again
-use mathlib.Core.Path.{_≡_, refl, sym, ap, _∙_}
-use mathlib.Core.Bool.{Bool, true, false, _&&_}
+--     cycle-storable   the cycle that a set makes may be stored
+use mathlib.Core.Path.{_≡_, refl, ap, _∙_}
+use mathlib.Core.Bool.{Bool, true, false, _&&_, true≢false}
 use mathlib.Core.List.{List, [], _∷_, _++_, append-nil}
-use Prim.Native.Nat.{ℕ, _+_, _≤_, _<_}
+use Prim.Native.Nat.{ℕ, _≤_, _<_, _^_}
 use native.Mathlib.Omega.{arith}
-use borrow.Author.Tests.{le-leb}
-use lib.Dec.{leb}
+use borrow.Author.Tests.{le-leb, leb-false, eqb-false, lt-ltb}
+use lib.Dec.{eqb, ltb}
+use lib.IntN.{ℤ, pos, negsuc}
+use lib.Signed.{leZ}
 use lib.ListN.{length, length-append}
 use Rattle.laws.specs.Lists.{all, putFirst}
 use Rattle.laws.specs.Keys.{absent, distinct}
-use Rattle.laws.proofs.Ranges.{left, right}
+use Rattle.laws.proofs.Ranges.{left, right, sized-small}
 use Rattle.numbers.specs.Limits.{places}
+use Rattle.numbers.specs.Ranges.{isTarget, isLength, isTime, isStoredTime}
+use Rattle.counted.specs.declared.Numbers.{Numbers}
+use Rattle.counted.specs.Numbers.{okNumbers}
+use Rattle.counted.proofs.Sizes.{time-mag}
+use Rattle.reserved.proofs.Cycles.{or-left, or-right}
 use Rattle.cycles.specs.declared.Cycle.{Cycle}
 use Rattle.cycles.specs.Due.{key}
 use Rattle.cycles.specs.Rules.{okCycle}
@@ -35,7 +43,7 @@ use Rattle.state.proofs.Parts.{whole, track-play, track-params, track-layers, t
 use Rattle.state.proofs.Stored.{stored-notes, stored-waves, stored-sines}
 use Rattle.reserving.specs.declared.Kept.{Kept}
 use Rattle.reserving.specs.Clearing.{cleared}
-use Rattle.reserving.specs.Setting.{withNote, withWave, withSine, withCycle}
+use Rattle.reserving.specs.Setting.{cycleOf, withNote, withWave, withSine, withCycle, onlyRemoves}
 use Rattle.reserving.proofs.Lent.{lent-track, lent-cycles, lent-lone, lent-whole}
 
 -- the track and the table that a call left may be used
@@ -72,7 +80,21 @@ module _ (a : Track) (e : okTrack a ≡ true) (n : NoteTable) (w : WaveTable) (s
     with-tables y c l =
         lent-whole (withTables a n w s (y .count)) (y .items) (track-kept (y .count) (few-cycles y c) (lone-three n w s y l)) c l
 
--- ---- once a target is out, and one is put in again
+-- ---- a track's tables once a target is out
+module _ (a : Track) (k : ℕ) (t : okTrack a ≡ true) where
+  pub notes-ok : okNotes (notesWithout (a .notes) k) ≡ true
+  unfolding okNotes
+  notes-ok = counted-without noNote (a .notes .count) (a .notes .items) okValues places (stored-notes a t) (noteAt k)
+
+  pub waves-ok : okWaves (wavesWithout (a .waves) k) ≡ true
+  unfolding okWaves
+  waves-ok = counted-without noWave (a .waves .count) (a .waves .items) okWave places (stored-waves a t) (waveAt k)
+
+  pub sines-ok : okSines (sinesWithout (a .sines) k) ≡ true
+  unfolding okSines
+  sines-ok = counted-without noSine (a .sines .count) (a .sines .items) okSine places (stored-sines a t) (sineAt k)
+
+-- ---- the same with the cycle table, and one is put in again
 module _ (a : Track) (cs : List Cycle) (k : ℕ) (e : okLent a cs ≡ true) where
   t : okTrack a ≡ true
   t = lent-track a cs e
@@ -89,21 +111,18 @@ module _ (a : Track) (cs : List Cycle) (k : ℕ) (e : okLent a cs ≡ true) wher
   abbrev y : CycleTable
   y = cyclesWithout (cyclesOf a cs) k
 
-  notes-ok : okNotes n ≡ true
-  unfolding okNotes
-  notes-ok = counted-without noNote (a .notes .count) (a .notes .items) okValues places (stored-notes a t) (noteAt k)
+  ns : okNotes n ≡ true
+  ns = notes-ok a k t
 
-  waves-ok : okWaves w ≡ true
-  unfolding okWaves
-  waves-ok = counted-without noWave (a .waves .count) (a .waves .items) okWave places (stored-waves a t) (waveAt k)
+  ws : okWaves w ≡ true
+  ws = waves-ok a k t
 
-  sines-ok : okSines s ≡ true
-  unfolding okSines
-  sines-ok = counted-without noSine (a .sines .count) (a .sines .items) okSine places (stored-sines a t) (sineAt k)
+  ss : okSines s ≡ true
+  ss = sines-ok a k t
 
-  cycles-ok : okCycles y ≡ true
+  ys : okCycles y ≡ true
   unfolding okCycles
-  cycles-ok = counted-without noCycle (a .cycles) cs okCycle places (lent-cycles a cs e) (cycleAt k)
+  ys = counted-without noCycle (a .cycles) cs okCycle places (lent-cycles a cs e) (cycleAt k)
 
   alone : lone (a .notes) (a .waves) (a .sines) (cyclesOf a cs) ≡ true
   alone = lent-lone a cs e
@@ -114,32 +133,57 @@ module _ (a : Track) (cs : List Cycle) (k : ℕ) (e : okLent a cs ≡ true) wher
 
   pub cleared-kept : Passes (cleared a cs k)
   unfolding cleared
-  cleared-kept = with-tables a t n w s notes-ok waves-ok sines-ok y cycles-ok (lone-taken (a .notes) (a .waves) (a .sines) (cyclesOf a cs) k alone)
+  cleared-kept = with-tables a t n w s ns ws ss y ys (lone-taken (a .notes) (a .waves) (a .sines) (cyclesOf a cs) k alone)
 
   pub note-kept : (x : OnNoteValues) → okValues x ≡ true → key (x .target) ≡ k → n .count < places → Passes (withNote x (cleared a cs k))
   unfolding cleared okNotes
   note-kept x o q h =
       with-tables a t (notesWith n x) w s
-      (counted-with noNote (n .count) (n .items) okValues places notes-ok x h (fitting noNote (a .notes .count) (notesLeft (a .notes) k) (a .notes .items)) o)
-      waves-ok sines-ok y cycles-ok (lone-note (a .notes) (a .waves) (a .sines) (cyclesOf a cs) k alone x q)
+      (counted-with noNote (n .count) (n .items) okValues places ns x h (fitting noNote (a .notes .count) (notesLeft (a .notes) k) (a .notes .items)) o)
+      ws ss y ys (lone-note (a .notes) (a .waves) (a .sines) (cyclesOf a cs) k alone x q)
 
   pub wave-kept : (x : OnNoteWave) → okWave x ≡ true → key (x .target) ≡ k → w .count < places → Passes (withWave x (cleared a cs k))
   unfolding cleared okWaves
   wave-kept x o q h =
-      with-tables a t n (wavesWith w x) s notes-ok
-      (counted-with noWave (w .count) (w .items) okWave places waves-ok x h (fitting noWave (a .waves .count) (wavesLeft (a .waves) k) (a .waves .items)) o)
-      sines-ok y cycles-ok (lone-wave (a .notes) (a .waves) (a .sines) (cyclesOf a cs) k alone x q)
+      with-tables a t n (wavesWith w x) s ns
+      (counted-with noWave (w .count) (w .items) okWave places ws x h (fitting noWave (a .waves .count) (wavesLeft (a .waves) k) (a .waves .items)) o)
+      ss y ys (lone-wave (a .notes) (a .waves) (a .sines) (cyclesOf a cs) k alone x q)
 
   pub sine-kept : (x : OnNoteSine) → okSine x ≡ true → key (x .target) ≡ k → s .count < places → Passes (withSine x (cleared a cs k))
   unfolding cleared okSines
   sine-kept x o q h =
-      with-tables a t n w (sinesWith s x) notes-ok waves-ok
-      (counted-with noSine (s .count) (s .items) okSine places sines-ok x h (fitting noSine (a .sines .count) (sinesLeft (a .sines) k) (a .sines .items)) o)
-      y cycles-ok (lone-sine (a .notes) (a .waves) (a .sines) (cyclesOf a cs) k alone x q)
+      with-tables a t n w (sinesWith s x) ns ws
+      (counted-with noSine (s .count) (s .items) okSine places ss x h (fitting noSine (a .sines .count) (sinesLeft (a .sines) k) (a .sines .items)) o)
+      y ys (lone-sine (a .notes) (a .waves) (a .sines) (cyclesOf a cs) k alone x q)
 
   pub cycle-kept : (x : Cycle) → okCycle x ≡ true → key (x .target) ≡ k → y .count < places → Passes (withCycle x (cleared a cs k))
   unfolding cleared okCycles
   cycle-kept x o q h =
-      with-tables a t n w s notes-ok waves-ok sines-ok (cyclesWith y x)
-      (counted-with noCycle (y .count) (y .items) okCycle places cycles-ok x h (fitting noCycle (a .cycles) (cyclesLeft (cyclesOf a cs) k) cs) o)
+      with-tables a t n w s ns ws ss (cyclesWith y x)
+      (counted-with noCycle (y .count) (y .items) okCycle places ys x h (fitting noCycle (a .cycles) (cyclesLeft (cyclesOf a cs) k) cs) o)
       (lone-cycle (a .notes) (a .waves) (a .sines) (cyclesOf a cs) k alone x q)
+
+-- ---- a cycle that is put in may be stored
+forwards : (n : ℤ) → leZ n (pos 0) ≡ false → leZ (pos 1) n ≡ true
+forwards (pos m) e = le-leb 1 m (omega (arith, leb-false m 0 e))
+forwards (negsuc m) e = absurd (true≢false e)
+
+some : (n : ℕ) → eqb n 0 ≡ false → ltb 0 n ≡ true
+some n e = let h = eqb-false n 0 e in lt-ltb 0 n (omega arith)
+
+stored : (z : ℤ) → isTime z ≡ true → isStoredTime z ≡ true
+unfolding isStoredTime
+stored z e = sized-small (2 ^ 41) z (omega (arith, time-mag z e))
+
+pub cycle-storable : (target n t : ℤ) (v : Numbers) → isTarget target ≡ true → (isLength n && okNumbers v) ≡ true → isTime t ≡ true → onlyRemoves n v ≡ false
+    → okCycle (cycleOf target n t v) ≡ true
+unfolding okCycle
+cycle-storable target n t v a o i b =
+    rw (
+      a,
+      forwards n (or-left (leZ n (pos 0)) (eqb (v .count) 0) b),
+      left (isLength n) (okNumbers v) o,
+      stored t i,
+      right (isLength n) (okNumbers v) o,
+      some (v .count) (or-right (leZ n (pos 0)) (eqb (v .count) 0) b),
+    )

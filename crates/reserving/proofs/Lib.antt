@@ -3,3 +3,7 @@ pub mod Refusing
 pub mod Settling
 pub mod Alone
 pub mod Keeping
+pub mod Tables
+pub mod Answering
+pub mod Promises
+pub mod Older

@@ -1,6 +1,6 @@
 -- The number of a call on a reservation, read off its tests in their order.
 --     wrong-size, no-target, long, no-number, full, well   which number it is
---     usable   a call that is not refused was handed a track and a table that may be used
+--     aimed, usable, allowed, roomy   what every test said of a call that is not refused
 use mathlib.Core.Path.{_≡_, refl}
 use mathlib.Core.Bool.{Bool, true, false, cond, _&&_}
 use mathlib.Core.List.{List}
@@ -48,25 +48,28 @@ module _ (a : Track) (size : ℕ) (cs : List Cycle) (target : ℤ) (short ok roo
           unfolding refusal
           well h = rw (eq-eqb size places s, t, l, k, h)
 
-passed : (s t l o k r : Bool) → _≡_ {A = ℕ} (cond s (cond t (cond l (cond (o && k) (cond r 0 6) 4) 3) 2) 1) 0 → (o ≡ true) × (k ≡ true) × (r ≡ true)
+passed : (s t l o k r : Bool) → _≡_ {A = ℕ} (cond s (cond t (cond l (cond (o && k) (cond r 0 6) 4) 3) 2) 1) 0 → (t ≡ true) × (o ≡ true) × (k ≡ true) × (r ≡ true)
 passed false t l o k r e = absurd (omega arith)
 passed true false l o k r e = absurd (omega arith)
 passed true true false o k r e = absurd (omega arith)
 passed true true true false k r e = absurd (omega arith)
 passed true true true true false r e = absurd (omega arith)
 passed true true true true true false e = absurd (omega arith)
-passed true true true true true true e = (refl, refl, refl)
+passed true true true true true true e = (refl, refl, refl, refl)
 
 module _ (a : Track) (size : ℕ) (cs : List Cycle) (target : ℤ) (short ok room : Bool) (e : refusal a size cs target short ok room ≡ 0) where
-  through : (okLent a cs ≡ true) × (ok ≡ true) × (room ≡ true)
+  through : (isTarget target ≡ true) × (okLent a cs ≡ true) × (ok ≡ true) × (room ≡ true)
   unfolding refusal
   through = passed (eqb size places) (isTarget target) short (okLent a cs) ok room e
 
+  pub aimed : isTarget target ≡ true
+  aimed = through .0
+
   pub usable : okLent a cs ≡ true
-  usable = through .0
+  usable = through .1
 
   pub allowed : ok ≡ true
-  allowed = through .1
+  allowed = through .2
 
   pub roomy : room ≡ true
-  roomy = through .2
+  roomy = through .3

@@ -7,7 +7,6 @@ ghost use Rattle.state.specs.Tests.{okLent};
 ghost use Rattle.reserving.specs.Clearing.{refusal, cleared, freed, placed};
 ghost use Rattle.reserving.specs.Setting.{repeatOf, noteRoom, waveRoom, sineRoom, cycleRoom, withNote, withWave, withSine, withCycle, removeReserve, setOnNote, setOnNoteWave, setOnNoteSine, setOnCycle};
 ghost use Rattle.reserving.specs.Old.{controllerTarget, bendTarget, removeCcOn, setCcOnNote, setCcOnNoteWave, setPbOnNoteWave, removePbOnNoteWave, aloneRefusal, removeCcOnNote, removeCcOnNoteWave};
-ghost use lib.IntN.{pos};
 use counted::numbers_of;
 use counted::numbers_ok;
 use cycles::Cycle;
@@ -425,8 +424,8 @@ pub fn remove_cc_on_note(mut track: Track, number: i32) -> TrackAnswer
             track: track,
         };
     }
-    let k = key_of(target);
-    track.notes = take_note(track.notes, k);
+    let key = key_of(target);
+    track.notes = take_note(track.notes, key);
     TrackAnswer {
         code: 0,
         track: track,
@@ -445,9 +444,9 @@ pub fn remove_cc_on_note_wave(mut track: Track, number: i32) -> TrackAnswer
             track: track,
         };
     }
-    let k = key_of(target);
-    track.waves = take_wave(track.waves, k);
-    track.sines = take_sine(track.sines, k);
+    let key = key_of(target);
+    track.waves = take_wave(track.waves, key);
+    track.sines = take_sine(track.sines, key);
     TrackAnswer {
         code: 0,
         track: track,

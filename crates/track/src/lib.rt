@@ -73,13 +73,15 @@ pub use reserving::set_on_note_wave;
 pub use reserving::set_pb_on_note_wave;
 pub use tables::OnNoteSine;
 
-// ---- what is written at the track's time, and at its cycles'
+// ---- what is written at the track's time, at its notes and at its cycles'
 pub use cycling::Cycled;
 pub use cycling::write_cc_on_cycle;
 pub use drawing::write_cc_on_time;
 pub use drawing::write_on_time;
 pub use drawing::write_pb_on_time;
 pub use drawing::write_sine;
+pub use noting::Noted;
+pub use noting::write_cc_on_note;
 pub use writing::Outcome;
 
 // ---- the event list

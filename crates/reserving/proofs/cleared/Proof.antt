@@ -1,7 +1,6 @@
 -- `cleared`: each table as its own call leaves it.
-use mathlib.Core.Path.{_≡_, ap, _∙_}
+use mathlib.Core.Path.{ap, _∙_}
 use borrow.Author.Needs.{needs}
-use Prim.Native.Nat.{ℕ}
 use Rattle.tables.specs.declared.CycleTable.{CycleTable}
 use Rattle.tables.specs.Tables.{cyclesWithout}
 use Rattle.reserving.specs.Clearing.{cleared}

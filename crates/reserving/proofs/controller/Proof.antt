@@ -1,5 +1,5 @@
 -- `controller`: each arm of the match.
-use mathlib.Core.Path.{_≡_, sym, ap, _∙_}
+use mathlib.Core.Path.{_∙_}
 use lib.IntN.{pos}
 use mir.Facts.{toZ-ofZ}
 use Rattle.laws.proofs.Signed.{lt-back-l}

@@ -1,6 +1,5 @@
 -- `remove_cc_on_note_wave`: the number that was asked chooses.
 use mathlib.Core.Path.{_≡_, sym, ap, ap₂, _∙_}
-use Prim.Native.Nat.{ℕ}
 use borrow.Author.Needs.{needs, sfits-of}
 use mir.Syntax.{w32}
 use mir.Val.{SFits, toZ, ofZ}

@@ -1,5 +1,5 @@
 -- `set_on_note`: both steps, with a list for notes (Settling).
-use mathlib.Core.Path.{_≡_, ap, _∙_}
+use mathlib.Core.Path.{ap, _∙_}
 use borrow.Author.Needs.{needs}
 use mir.Facts.{toZ-ofZ}
 use Rattle.counted.specs.declared.Numbers.{Numbers}
