@@ -6,16 +6,15 @@
 --     flag       the flag is set where a write was lost, else as it was
 --     in-time    each event's time is in the range of event times
 --     refused    a refused call leaves all as it was given
-use mathlib.Core.Path.{_≡_, refl, sym, ap, ap₂, _∙_}
+use mathlib.Core.Path.{_≡_, refl, sym, ap, _∙_}
 use mathlib.Core.Bool.{Bool, true, false, cond, _&&_, _||_, true≢false}
 use mathlib.Core.List.{List, [], _∷_, _++_, map, append-nil, append-assoc}
-use Prim.Native.Nat.{ℕ, zero, suc, _+_, _*_, _-_, _≤_, _<_, _^_}
+use Prim.Native.Nat.{ℕ, zero, suc, _+_, _*_, _≤_, _^_}
 use native.Mathlib.Omega.{arith}
 use borrow.Author.Tests.{ne-eqb, leb-true, leb-false}
 use lib.Dec.{eqb, leb}
 use lib.IntN.{ℤ, pos, _+ℤ_}
 use lib.ListN.{length, getD, length-map}
-use lib.Signed.{mag}
 use Rattle.laws.specs.Integers.{inside, sized}
 use Rattle.laws.specs.Lists.{all, unless, without}
 use Rattle.laws.proofs.Ranges.{left, right, sized-mag, sized-small}
@@ -32,7 +31,7 @@ use Rattle.values.specs.Options.{newOption, okOption}
 use Rattle.values.specs.Value.{controllerEvent, bendEvent, eventFor, startOf, timeOf, eventOfOffer, wroteOf}
 use Rattle.cycles.specs.Due.{DueWrite, key}
 use Rattle.cycles.specs.Calls.{State, Turn, wrote, push, eventsOf}
-use Rattle.cycles.specs.Turns.{asked, offered, turn, optionOf}
+use Rattle.cycles.specs.Turns.{turn, optionOf}
 use Rattle.cycles.proofs.Series.{push-fits}
 use Rattle.tables.specs.declared.OnNoteValues.{OnNoteValues}
 use Rattle.state.specs.declared.Track.{Track}

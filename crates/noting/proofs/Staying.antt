@@ -2,7 +2,7 @@
 -- place within its count, and no target has gained a reservation.
 --     track-kept   of a track
 --     lent-kept    of a track and its cycle table
-use mathlib.Core.Path.{_≡_, refl, sym, ap, ap₂, _∙_}
+use mathlib.Core.Path.{_≡_, refl, sym, ap, _∙_}
 use mathlib.Core.Bool.{Bool, true, false, cond, not, _&&_}
 use mathlib.Core.List.{List, [], _∷_, _++_, map, append-assoc}
 use Prim.Native.Nat.{ℕ, _≤_}
@@ -10,7 +10,7 @@ use native.Mathlib.Omega.{arith}
 use lib.Dec.{eqb}
 use lib.IntN.{ℤ}
 use lib.ListN.{length, take, length-take}
-use Rattle.laws.specs.Lists.{all, unless, without, putFirst}
+use Rattle.laws.specs.Lists.{all, unless, without}
 use Rattle.laws.specs.Keys.{absent, distinct}
 use Rattle.laws.proofs.Ranges.{left, right}
 use Rattle.laws.proofs.Compact.{length-without}
@@ -23,7 +23,7 @@ use Rattle.tables.specs.declared.OnNoteValues.{OnNoteValues}
 use Rattle.tables.specs.declared.NoteTable.{NoteTable}
 use Rattle.tables.specs.declared.CycleTable.{CycleTable}
 use Rattle.tables.specs.Reservations.{okValues}
-use Rattle.tables.specs.Tables.{noNote, okNotes, okWaves, okSines, okCycles, noteKeys, waveKeys, sineKeys, cycleKeys, lone}
+use Rattle.tables.specs.Tables.{noNote, okNotes, okCycles, noteKeys, waveKeys, sineKeys, cycleKeys, lone}
 use Rattle.tables.proofs.Keeping.{shown, counted-put}
 use Rattle.state.specs.declared.Track.{Track}
 use Rattle.state.specs.Track.{noCycles, cyclesOf}

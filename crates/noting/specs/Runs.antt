@@ -2,7 +2,6 @@
 -- stands one further. The first write that does not fit is lost and ends the run: that list and those after it stand still.
 use mathlib.Core.Bool.{Bool, true, false, cond}
 use mathlib.Core.List.{List, [], _∷_, _++_}
-use Prim.Native.Nat.{ℕ}
 use lib.ListN.{length, drop, replicate}
 use Rattle.laws.specs.Lists.{without, putFirst}
 use Rattle.numbers.specs.Limits.{places, valueBytes}

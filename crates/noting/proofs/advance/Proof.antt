@@ -1,5 +1,4 @@
 -- `advance`: a place is at most a list's count.
-use mathlib.Core.Path.{_≡_}
 use native.Mathlib.Omega.{arith}
 use borrow.Author.Needs.{needs}
 use Rattle.noting.specs.Lists.{advanced}

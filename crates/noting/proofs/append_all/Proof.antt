@@ -1,9 +1,9 @@
 -- `append_all`: the loop is proofs/Appending's; here it meets the slice and the array.
-use mathlib.Core.Path.{_≡_, refl, sym, ap, _∙_}
-use Prim.Native.Nat.{ℕ, _+_, _-_, _≤_, _<_}
+use mathlib.Core.Path.{_≡_, refl, _∙_}
+use Prim.Native.Nat.{_-_, _<_}
 use native.Mathlib.Omega.{arith}
 use borrow.Author.Needs.{needs}
-use lib.ListN.{length, getD}
+use lib.ListN.{length}
 use Rattle.laws.proofs.Reading.{length-told}
 use Rattle.events.specs.Events.{zeroEvent}
 use Rattle.eventlist.specs.Rows.{rowsOf}

@@ -1,5 +1,4 @@
 -- `place_of`: the definition's choice, by the branch that was taken.
-use mathlib.Core.Path.{refl}
 use borrow.Author.Tests.{le-leb, lt-leb}
 use native.Mathlib.Omega.{arith}
 use Rattle.noting.specs.Lists.{placeOf}

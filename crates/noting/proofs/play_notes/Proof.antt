@@ -1,7 +1,5 @@
 -- `play_notes`: the run's answer, and that with the spent lists taken out (proofs/Playing).
 use mathlib.Core.Path.{_≡_, ap, _∙_}
-use mathlib.Core.List.{List}
-use Prim.Native.Nat.{ℕ, _≤_}
 use native.Mathlib.Omega.{arith}
 use borrow.Author.Needs.{needs}
 use lib.ListN.{length, take}

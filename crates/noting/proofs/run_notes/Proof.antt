@@ -1,8 +1,8 @@
 -- `run_notes`: the loop's invariant and its steps are proofs/Walking's; here they meet the arrays.
-use mathlib.Core.Path.{_≡_, refl, sym, ap, _∙_}
+use mathlib.Core.Path.{_≡_, sym, ap, _∙_}
 use mathlib.Core.Bool.{true, false}
 use mathlib.Core.List.{[]}
-use Prim.Native.Nat.{ℕ, _-_, _≤_, _<_, min}
+use Prim.Native.Nat.{ℕ, _-_, _≤_, _<_}
 use native.Mathlib.Omega.{arith}
 use borrow.Author.Needs.{needs}
 use borrow.Author.Tests.{not-true, not-false}
@@ -11,7 +11,6 @@ use lib.ListN.{length, getD}
 use mir.Facts.{toZ-ofZ}
 use Rattle.laws.proofs.Reading.{length-told, getD-any}
 use Rattle.laws.proofs.Every.{all-below}
-use Rattle.events.specs.declared.Event.{Event}
 use Rattle.values.specs.declared.WriteOption.{WriteOption}
 use Rattle.values.specs.Options.{newOption}
 use Rattle.cycles.specs.Due.{key}

@@ -1,9 +1,6 @@
 -- `step`: whether the write fits chooses the list that is left.
-use mathlib.Core.Path.{_≡_, sym, ap, _∙_}
-use mathlib.Core.Bool.{true, false}
 use borrow.Author.Needs.{needs}
-use Rattle.values.specs.declared.Wrote.{Wrote}
-use Rattle.noting.specs.Runs.{wroteAt, stepOf}
+use Rattle.noting.specs.Runs.{stepOf}
 use Rattle.noting.proofs.step.Statement.{statement}
 use Rattle.noting.proofs.step.Tie as tie
 

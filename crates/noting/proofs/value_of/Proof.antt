@@ -1,9 +1,9 @@
 -- `value_of`: the place lies below the list's count, and that within the array.
-use mathlib.Core.Path.{_≡_, refl, ap, _∙_}
+use mathlib.Core.Path.{_≡_, ap}
 use Prim.Native.Nat.{ℕ, _≤_, _<_, _^_}
 use native.Mathlib.Omega.{arith}
 use borrow.Author.Needs.{needs}
-use lib.IntN.{ℤ, pos}
+use lib.IntN.{pos}
 use lib.ListN.{length, getD}
 use lib.Signed.{mag}
 use mir.Syntax.{w32}
@@ -12,7 +12,7 @@ use mir.Facts.{toZ-ofZ}
 use Rattle.laws.proofs.Ranges.{sized-mag}
 use Rattle.numbers.specs.Ranges.{isNumber}
 use Rattle.counted.proofs.Counted.{numbers-at}
-use Rattle.noting.specs.Lists.{placeOf, valueOf}
+use Rattle.noting.specs.Lists.{valueOf}
 use Rattle.noting.proofs.Rules.{sound, some}
 use Rattle.noting.proofs.value_of.Statement.{statement}
 use Rattle.noting.proofs.value_of.Tie as tie

@@ -1,12 +1,10 @@
 -- `write_cc_on_note`: the tests in their order (Refusing), then the contract of the run over the table and that of the list, which
 -- for a whole number of records says every number (`determined`).
-use mathlib.Core.Path.{_≡_, refl, sym, ap, ap₂, _∙_}
-use mathlib.Core.Bool.{Bool, true, _&&_}
-use mathlib.Core.List.{List, _++_}
-use Prim.Native.Nat.{ℕ, _/_, _≤_, _<_, _+_}
+use mathlib.Core.Path.{_≡_, sym, ap, _∙_}
+use mathlib.Core.Bool.{true, _&&_}
+use Prim.Native.Nat.{ℕ, _+_}
 use native.Mathlib.Omega.{arith}
 use borrow.Author.Needs.{needs}
-use lib.IntN.{ℤ}
 use lib.ListN.{length, take}
 use lib.Seq.{take-append-seam}
 use mir.Syntax.{w32, w64}
@@ -18,7 +16,6 @@ use Rattle.laws.proofs.Tests.{is-at, both, no, yes}
 use Rattle.numbers.specs.Ranges.{isTime, isChannel}
 use Rattle.budget.specs.declared.Budget.{Budget}
 use Rattle.budget.specs.Budgets.{okBudget}
-use Rattle.events.specs.declared.Event.{Event}
 use Rattle.events.specs.Events.{zeroEvent}
 use Rattle.eventlist.specs.Rows.{rowsOf, eventsOf}
 use Rattle.eventlist.specs.Sound.{isList}
@@ -30,9 +27,8 @@ use Rattle.state.specs.Tests.{okTrack}
 use Rattle.state.proofs.Parts.{track-play}
 use Rattle.state.proofs.Play.{play-channel}
 use Rattle.state.proofs.Stored.{stored-notes}
-use Rattle.noting.specs.declared.Onset.{Onset}
 use Rattle.noting.specs.declared.Played.{Played}
-use Rattle.noting.specs.Runs.{Run, run, kept, notesPut, gatheredIn, playedOf}
+use Rattle.noting.specs.Runs.{Run, kept, notesPut, playedOf}
 use Rattle.noting.specs.Calls.{runOf, withNotes, listAfter, answer, noted, listLeft}
 use Rattle.noting.proofs.Refusing as R
 use Rattle.noting.proofs.write_cc_on_note.Statement.{statement}
