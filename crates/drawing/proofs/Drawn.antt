@@ -3,6 +3,8 @@
 --     asked-draw         all that is asked before 7
 --     asked-as           it may be asked by other tests; those of the numbers count only where the arguments' list is short
 --     refused            a test refuses: its number, and everything as it was
+--     track-well ..      what then holds of what was handed in
+--     seven              and the refusal is 7 or none
 --     tried              all are passed: what the write itself answers and leaves, 7 or not
 --     drawn-at           the same of an equal target
 use mathlib.Core.Path.{_≡_, refl, sym, _∙_, subst}
@@ -95,7 +97,7 @@ module _ (d : Draw) where
     pub well : Passed (isList (d .events) (d .count)) (isTarget (d .target)) (d .short) (drawNumbers d)
     well = passed (isList (d .events) (d .count)) (isTarget (d .target)) (d .short) (drawNumbers d) e
 
-    seven : drawRefusal d ≡ cond (drawLacks d) 7 0
+    pub seven : drawRefusal d ≡ cond (drawLacks d) 7 0
     unfolding drawRefusal inOrder
     seven = rw (well .list-well, well .target-well, well .short-well, well .numbers-well)
 
@@ -106,11 +108,17 @@ module _ (d : Draw) where
     three-well : (two && d .allowed) ≡ true
     three-well = left (two && d .allowed) (okEvents (d .store) (d .events) (d .count)) (well .numbers-well)
 
+    pub events-well : okEvents (d .store) (d .events) (d .count) ≡ true
+    events-well = right (two && d .allowed) (okEvents (d .store) (d .events) (d .count)) (well .numbers-well)
+
     pub allowed-well : d .allowed ≡ true
     allowed-well = right two (d .allowed) three-well
 
     pub track-well : okTrack (d .track) ≡ true
     track-well = left (okTrack (d .track)) (okBudget (d .budget)) (left two (d .allowed) three-well)
+
+    pub budget-well : okBudget (d .budget) ≡ true
+    budget-well = right (okTrack (d .track)) (okBudget (d .budget)) (left two (d .allowed) three-well)
 
     pub ready-draw : {w : Write} → w ≡ drawWrite d → Ready w
     ready-draw q = subst (λ (w : Write). Ready w) (sym q) (track-ready (d .track) (d .target) track-well)

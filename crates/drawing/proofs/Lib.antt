@@ -3,3 +3,7 @@ pub mod Asking
 pub mod Listed
 pub mod Drawn
 pub mod Sines
+pub mod Options
+pub mod Keeping
+pub mod Promises
+pub mod Leaving

@@ -3,7 +3,7 @@
 // apart once. A call that refuses hands back what it was given.
 ghost use mathlib.Core.Path.{_≡_};
 ghost use mathlib.Core.Bool.{_&&_};
-ghost use Prim.Native.Nat.{_≤_, max};
+ghost use Prim.Native.Nat.{_≤_};
 ghost use lib.ListN.{length};
 ghost use Rattle.laws.specs.Integers.{cut};
 ghost use Rattle.numbers.specs.Limits.{places};
@@ -35,6 +35,7 @@ use tables::sine_ok;
 use values::Write;
 use values::WriteOption;
 use writing::Outcome;
+use writing::at_least_one;
 
 // A target's option, or the refusal and an option in which nothing is set.
 #[repr(C)]
@@ -190,15 +191,6 @@ pub fn set_repeat(track: Track, target: i32, on: u32) -> TrackAnswer
     TrackAnswer { code: 0, track: t }
 }
 
-fn at_least_one(n: u64) -> u64
-    ensures { λ r. ⌜ r ≡ max n 1 ⌝ }
-{
-    if n < 1 {
-        return 1;
-    }
-    n
-}
-
 // How many steps a number is: none below 0.
 fn steps_of(x: i32) -> u64
     ensures { λ r. ⌜ r ≡ cut x ⌝ }
@@ -233,7 +225,7 @@ fn freq_for(target: i32, ccfreq: i32, pbfreq: i32, timebase: i32) -> u64
 }
 
 // What a write at the track's time is asked with: its place, the target's option and frequency.
-fn write_of(track: Track, target: i32) -> Write
+pub fn write_of(track: Track, target: i32) -> Write
     ensures { λ r. ⌜ r ≡ writeOf track target ⌝ }
 {
     let option = option_of(track, target);

@@ -10,13 +10,12 @@ use mathlib.Core.Path.{_≡_, refl, sym, ap, _∙_}
 use mathlib.Core.Bool.{Bool, true, false, cond, _&&_, _||_, true≢false}
 use mathlib.Core.List.{List, [], _∷_, _++_}
 use Prim.Native.Nat.{ℕ}
-use borrow.Author.Tests.{eqb-true, ltb-true, lt-ltb}
+use borrow.Author.Tests.{eqb-true, ltb-true}
 use lib.Dec.{eqb}
 use lib.IntN.{ℤ}
 use lib.ListN.{take}
 use Rattle.laws.specs.Keys.{absent}
 use Rattle.laws.proofs.Ranges.{left, right}
-use Rattle.numbers.specs.Limits.{places}
 use Rattle.numbers.specs.Ranges.{isLength}
 use Rattle.counted.specs.Numbers.{numbers, okNumbers}
 use Rattle.cycles.specs.declared.Cycle.{Cycle}
@@ -28,17 +27,16 @@ use Rattle.tables.specs.Reservations.{okValues, okWave, okSine}
 use Rattle.tables.specs.Tables.{noNote, noWave, noSine, noCycle, noteAt, waveAt, sineAt, cycleAt, notesLeft, wavesLeft, sinesLeft, cyclesLeft, noteKeys, waveKeys, sineKeys, cycleKeys}
 use Rattle.state.specs.declared.Track.{Track}
 use Rattle.state.specs.Track.{cyclesOf}
-use Rattle.state.specs.Tests.{okLent}
 use Rattle.state.proofs.Parts.{track-play}
 use Rattle.state.proofs.Play.{play-time}
 use Rattle.reserving.specs.declared.Kept.{Kept}
 use Rattle.reserving.specs.Clearing.{answer, cleared, reserving}
 use Rattle.reserving.specs.Setting.{isShort, repeatOf, noteOf, waveOf, cycleOf, noteRoom, waveRoom, sineRoom, cycleRoom, withNote, withWave, withSine, withCycle, onlyRemoves, removeReserve, setOnNote, setOnNoteWave, setOnNoteSine, setOnCycle}
 use Rattle.reserving.proofs.Lent.{lent-track, notes-few, waves-few, sines-few, cycles-few}
-use Rattle.reserving.proofs.Answering.{accepted, left-put, refused, placeless}
-use Rattle.reserving.proofs.Refusing.{aimed, usable, allowed, roomy}
+use Rattle.reserving.proofs.Answering.{accepted, left-put, refused, placeless, passing, last, there, again}
+use Rattle.reserving.proofs.Refusing.{allowed}
 use Rattle.reserving.proofs.Keeping.{Passes, cleared-kept, note-kept, wave-kept, sine-kept, cycle-kept, cycle-storable}
-use Rattle.reserving.proofs.Tables.{gone, fewer, at-the-end, there}
+use Rattle.reserving.proofs.Tables.{gone, at-the-end}
 
 -- ---- no table has the target of key k
 pub record Gone (k : ℕ) (r : Kept) : Type 0 where
@@ -69,124 +67,110 @@ module _ (a : Track) (size : ℕ) (cs : List Cycle) (target : ℤ) where
   remove-refused h = refused a size cs target true true (λ (f : Kept). true) (λ (f : Kept). f) cleared-code h
 
   module _ (e : removeReserve a size cs target .code ≡ 0) where
-    left-cleared : removeReserve a size cs target ≡ cleared a cs (key target)
-    unfolding removeReserve
-    left-cleared = left-put a size cs target true true (λ (f : Kept). true) (λ (f : Kept). f) e
-
     pub remove-passes : Passes (removeReserve a size cs target)
     unfolding removeReserve
-    remove-passes =
-        let n = accepted a size cs target true true (λ (f : Kept). true) (λ (f : Kept). f) e in
-        ap (λ (x : Kept). okLent (x .track) (x .cycles)) left-cleared ∙ cleared-kept a cs (key target) (usable a size cs target true true true n)
+    remove-passes = passing a size cs target true true (λ (f : Kept). true) (λ (f : Kept). f) (λ t m o h. cleared-kept a cs (key target) m) e
 
     pub removed : Gone (key target) (removeReserve a size cs target)
-    removed = rw left-cleared (cleared-gone a cs (key target))
+    unfolding removeReserve
+    removed = rw (left-put a size cs target true true (λ (f : Kept). true) (λ (f : Kept). f) e) (cleared-gone a cs (key target))
 
   -- ---- `set_on_note`
   module _ (v : List ℤ) where
+    abbrev note : OnNoteValues
+    note = noteOf target (repeatOf a target) (numbers v)
+
+    abbrev notes : Kept → List OnNoteValues
+    notes r = take (r .track .notes .count) (r .track .notes .items)
+
     pub note-refused : (setOnNote a size cs target v .code ≡ 0 → ⊥) → setOnNote a size cs target v ≡ answer (setOnNote a size cs target v .code) a cs
     unfolding setOnNote
-    note-refused h = refused a size cs target (isShort v) (okValues (noteOf target (repeatOf a target) (numbers v))) noteRoom (withNote (noteOf target (repeatOf a target) (numbers v))) refl h
+    note-refused h = refused a size cs target (isShort v) (okValues note) noteRoom (withNote note) refl h
 
     pub note-passes : setOnNote a size cs target v .code ≡ 0 → Passes (setOnNote a size cs target v)
     unfolding setOnNote cleared
-    note-passes e =
-        let n = accepted a size cs target (isShort v) (okValues (noteOf target (repeatOf a target) (numbers v))) noteRoom (withNote (noteOf target (repeatOf a target) (numbers v))) e in
-        let m = usable a size cs target _ _ _ n in
-        let o = allowed a size cs target _ _ _ n in
-        ap (λ (x : Kept). okLent (x .track) (x .cycles)) (left-put a size cs target (isShort v) (okValues (noteOf target (repeatOf a target) (numbers v))) noteRoom (withNote (noteOf target (repeatOf a target) (numbers v))) e)
-        ∙ note-kept a cs (key target) m (noteOf target (repeatOf a target) (numbers v)) o refl (ltb-true _ _ (roomy a size cs target _ _ _ n))
+    note-passes e = passing a size cs target (isShort v) (okValues note) noteRoom (withNote note) (λ t m o h. note-kept a cs (key target) m note o refl (ltb-true _ _ h)) e
 
-    pub note-last : setOnNote a size cs target v .code ≡ 0
-        → (let t = setOnNote a size cs target v .track .notes in take (t .count) (t .items) ≡ notesLeft (a .notes) (key target) ++ ((noteOf target (repeatOf a target) (numbers v)) ∷ []))
-    unfolding setOnNote cleared noteAt
-    note-last e =
-        ap (λ (x : Kept). take (x .track .notes .count) (x .track .notes .items)) (left-put a size cs target (isShort v) (okValues (noteOf target (repeatOf a target) (numbers v))) noteRoom (withNote (noteOf target (repeatOf a target) (numbers v))) e)
-        ∙ at-the-end (λ (x : OnNoteValues). key (x .target)) (key target) noNote (a .notes .count) (a .notes .items) (noteOf target (repeatOf a target) (numbers v))
+    note-end : notes (withNote note (cleared a cs (key target))) ≡ notesLeft (a .notes) (key target) ++ (note ∷ [])
+    unfolding cleared noteAt
+    note-end = at-the-end (λ (x : OnNoteValues). key (x .target)) (key target) noNote (a .notes .count) (a .notes .items) note
+
+    pub note-last : setOnNote a size cs target v .code ≡ 0 → notes (setOnNote a size cs target v) ≡ notesLeft (a .notes) (key target) ++ (note ∷ [])
+    unfolding setOnNote noteAt
+    note-last e = last a size cs target (isShort v) (okValues note) noteRoom (withNote note) (λ (x : OnNoteValues). key (x .target)) (a .notes .count) (a .notes .items) note notes note-end e
+
+    pub note-there : setOnNote a size cs target v .code ≡ 0 → absent (key target) (noteKeys (setOnNote a size cs target v .track .notes)) ≡ false
+    unfolding setOnNote noteAt
+    note-there e = there a size cs target (isShort v) (okValues note) noteRoom (withNote note) (λ (x : OnNoteValues). key (x .target)) (a .notes .count) (a .notes .items) note notes note-end e refl
 
     pub note-again : absent (key target) (noteKeys (a .notes)) ≡ false → setOnNote a size cs target v .code ≡ 6 → ⊥
     unfolding setOnNote cleared noteAt
-    note-again q e =
-        let p = placeless a size cs target (isShort v) (okValues (noteOf target (repeatOf a target) (numbers v))) noteRoom (withNote (noteOf target (repeatOf a target) (numbers v))) refl e in
-        let h = fewer (λ (x : OnNoteValues). key (x .target)) (key target) noNote (a .notes .count) (a .notes .items) places (notes-few a cs (p .0)) q in
-        true≢false (sym (lt-ltb _ places h) ∙ p .1)
-
-    pub note-there : setOnNote a size cs target v .code ≡ 0 → absent (key target) (noteKeys (setOnNote a size cs target v .track .notes)) ≡ false
-    unfolding setOnNote cleared noteAt
-    note-there e =
-        ap (λ (x : Kept). absent (key target) (noteKeys (x .track .notes))) (left-put a size cs target (isShort v) (okValues (noteOf target (repeatOf a target) (numbers v))) noteRoom (withNote (noteOf target (repeatOf a target) (numbers v))) e)
-        ∙ there (λ (x : OnNoteValues). key (x .target)) (key target) noNote (a .notes .count) (a .notes .items) (noteOf target (repeatOf a target) (numbers v)) refl
+    note-again q e = again a size cs target (isShort v) (okValues note) noteRoom (withNote note) (λ (x : OnNoteValues). key (x .target)) (a .notes .count) (a .notes .items) refl refl (notes-few a cs) q e
 
   -- ---- `set_on_note_wave`
   module _ (mode : ℕ) (v : List ℤ) where
+    abbrev wave : OnNoteWave
+    wave = waveOf target mode (numbers v)
+
+    abbrev waves : Kept → List OnNoteWave
+    waves r = take (r .track .waves .count) (r .track .waves .items)
+
     pub wave-refused : (setOnNoteWave a size cs target mode v .code ≡ 0 → ⊥) → setOnNoteWave a size cs target mode v ≡ answer (setOnNoteWave a size cs target mode v .code) a cs
     unfolding setOnNoteWave
-    wave-refused h = refused a size cs target (isShort v) (okWave (waveOf target mode (numbers v))) waveRoom (withWave (waveOf target mode (numbers v))) refl h
+    wave-refused h = refused a size cs target (isShort v) (okWave wave) waveRoom (withWave wave) refl h
 
     pub wave-passes : setOnNoteWave a size cs target mode v .code ≡ 0 → Passes (setOnNoteWave a size cs target mode v)
     unfolding setOnNoteWave cleared
-    wave-passes e =
-        let n = accepted a size cs target (isShort v) (okWave (waveOf target mode (numbers v))) waveRoom (withWave (waveOf target mode (numbers v))) e in
-        let m = usable a size cs target _ _ _ n in
-        let o = allowed a size cs target _ _ _ n in
-        ap (λ (x : Kept). okLent (x .track) (x .cycles)) (left-put a size cs target (isShort v) (okWave (waveOf target mode (numbers v))) waveRoom (withWave (waveOf target mode (numbers v))) e)
-        ∙ wave-kept a cs (key target) m (waveOf target mode (numbers v)) o refl (ltb-true _ _ (roomy a size cs target _ _ _ n))
+    wave-passes e = passing a size cs target (isShort v) (okWave wave) waveRoom (withWave wave) (λ t m o h. wave-kept a cs (key target) m wave o refl (ltb-true _ _ h)) e
 
-    pub wave-last : setOnNoteWave a size cs target mode v .code ≡ 0
-        → (let t = setOnNoteWave a size cs target mode v .track .waves in take (t .count) (t .items) ≡ wavesLeft (a .waves) (key target) ++ ((waveOf target mode (numbers v)) ∷ []))
-    unfolding setOnNoteWave cleared waveAt
-    wave-last e =
-        ap (λ (x : Kept). take (x .track .waves .count) (x .track .waves .items)) (left-put a size cs target (isShort v) (okWave (waveOf target mode (numbers v))) waveRoom (withWave (waveOf target mode (numbers v))) e)
-        ∙ at-the-end (λ (x : OnNoteWave). key (x .target)) (key target) noWave (a .waves .count) (a .waves .items) (waveOf target mode (numbers v))
+    wave-end : waves (withWave wave (cleared a cs (key target))) ≡ wavesLeft (a .waves) (key target) ++ (wave ∷ [])
+    unfolding cleared waveAt
+    wave-end = at-the-end (λ (x : OnNoteWave). key (x .target)) (key target) noWave (a .waves .count) (a .waves .items) wave
+
+    pub wave-last : setOnNoteWave a size cs target mode v .code ≡ 0 → waves (setOnNoteWave a size cs target mode v) ≡ wavesLeft (a .waves) (key target) ++ (wave ∷ [])
+    unfolding setOnNoteWave waveAt
+    wave-last e = last a size cs target (isShort v) (okWave wave) waveRoom (withWave wave) (λ (x : OnNoteWave). key (x .target)) (a .waves .count) (a .waves .items) wave waves wave-end e
+
+    pub wave-there : setOnNoteWave a size cs target mode v .code ≡ 0 → absent (key target) (waveKeys (setOnNoteWave a size cs target mode v .track .waves)) ≡ false
+    unfolding setOnNoteWave waveAt
+    wave-there e = there a size cs target (isShort v) (okWave wave) waveRoom (withWave wave) (λ (x : OnNoteWave). key (x .target)) (a .waves .count) (a .waves .items) wave waves wave-end e refl
 
     pub wave-again : absent (key target) (waveKeys (a .waves)) ≡ false → setOnNoteWave a size cs target mode v .code ≡ 6 → ⊥
     unfolding setOnNoteWave cleared waveAt
-    wave-again q e =
-        let p = placeless a size cs target (isShort v) (okWave (waveOf target mode (numbers v))) waveRoom (withWave (waveOf target mode (numbers v))) refl e in
-        let h = fewer (λ (x : OnNoteWave). key (x .target)) (key target) noWave (a .waves .count) (a .waves .items) places (waves-few a cs (p .0)) q in
-        true≢false (sym (lt-ltb _ places h) ∙ p .1)
-
-    pub wave-there : setOnNoteWave a size cs target mode v .code ≡ 0 → absent (key target) (waveKeys (setOnNoteWave a size cs target mode v .track .waves)) ≡ false
-    unfolding setOnNoteWave cleared waveAt
-    wave-there e =
-        ap (λ (x : Kept). absent (key target) (waveKeys (x .track .waves))) (left-put a size cs target (isShort v) (okWave (waveOf target mode (numbers v))) waveRoom (withWave (waveOf target mode (numbers v))) e)
-        ∙ there (λ (x : OnNoteWave). key (x .target)) (key target) noWave (a .waves .count) (a .waves .items) (waveOf target mode (numbers v)) refl
+    wave-again q e = again a size cs target (isShort v) (okWave wave) waveRoom (withWave wave) (λ (x : OnNoteWave). key (x .target)) (a .waves .count) (a .waves .items) refl refl (waves-few a cs) q e
 
   -- ---- `set_on_note_sine`
   module _ (sine : OnNoteSine) where
+    abbrev named : Bool
+    named = eqb (key (sine .target)) (key target)
+
+    abbrev sines : Kept → List OnNoteSine
+    sines r = take (r .track .sines .count) (r .track .sines .items)
+
     pub sine-refused : (setOnNoteSine a size cs target sine .code ≡ 0 → ⊥) → setOnNoteSine a size cs target sine ≡ answer (setOnNoteSine a size cs target sine .code) a cs
     unfolding setOnNoteSine
-    sine-refused h = refused a size cs target true (okSine sine && eqb (key (sine .target)) (key target)) sineRoom (withSine sine) refl h
+    sine-refused h = refused a size cs target true (okSine sine && named) sineRoom (withSine sine) refl h
 
     pub sine-passes : setOnNoteSine a size cs target sine .code ≡ 0 → Passes (setOnNoteSine a size cs target sine)
     unfolding setOnNoteSine cleared
-    sine-passes e =
-        let n = accepted a size cs target true (okSine sine && eqb (key (sine .target)) (key target)) sineRoom (withSine sine) e in
-        let m = usable a size cs target _ _ _ n in
-        let o = allowed a size cs target _ _ _ n in
-        ap (λ (x : Kept). okLent (x .track) (x .cycles)) (left-put a size cs target true (okSine sine && eqb (key (sine .target)) (key target)) sineRoom (withSine sine) e)
-        ∙ sine-kept a cs (key target) m sine (left (okSine sine) (eqb (key (sine .target)) (key target)) o) (eqb-true _ _ (right (okSine sine) (eqb (key (sine .target)) (key target)) o)) (ltb-true _ _ (roomy a size cs target _ _ _ n))
+    sine-passes e = passing a size cs target true (okSine sine && named) sineRoom (withSine sine) (λ t m o h. sine-kept a cs (key target) m sine (left (okSine sine) named o) (eqb-true _ _ (right (okSine sine) named o)) (ltb-true _ _ h)) e
 
-    pub sine-last : setOnNoteSine a size cs target sine .code ≡ 0
-        → (let t = setOnNoteSine a size cs target sine .track .sines in take (t .count) (t .items) ≡ sinesLeft (a .sines) (key target) ++ (sine ∷ []))
-    unfolding setOnNoteSine cleared sineAt
-    sine-last e =
-        ap (λ (x : Kept). take (x .track .sines .count) (x .track .sines .items)) (left-put a size cs target true (okSine sine && eqb (key (sine .target)) (key target)) sineRoom (withSine sine) e)
-        ∙ at-the-end (λ (x : OnNoteSine). key (x .target)) (key target) noSine (a .sines .count) (a .sines .items) sine
+    sine-end : sines (withSine sine (cleared a cs (key target))) ≡ sinesLeft (a .sines) (key target) ++ (sine ∷ [])
+    unfolding cleared sineAt
+    sine-end = at-the-end (λ (x : OnNoteSine). key (x .target)) (key target) noSine (a .sines .count) (a .sines .items) sine
+
+    pub sine-last : setOnNoteSine a size cs target sine .code ≡ 0 → sines (setOnNoteSine a size cs target sine) ≡ sinesLeft (a .sines) (key target) ++ (sine ∷ [])
+    unfolding setOnNoteSine sineAt
+    sine-last e = last a size cs target true (okSine sine && named) sineRoom (withSine sine) (λ (x : OnNoteSine). key (x .target)) (a .sines .count) (a .sines .items) sine sines sine-end e
+
+    pub sine-there : setOnNoteSine a size cs target sine .code ≡ 0 → absent (key target) (sineKeys (setOnNoteSine a size cs target sine .track .sines)) ≡ false
+    unfolding setOnNoteSine sineAt
+    sine-there e = let o = allowed a size cs target _ _ _ (accepted a size cs target true (okSine sine && named) sineRoom (withSine sine) e) in
+        there a size cs target true (okSine sine && named) sineRoom (withSine sine) (λ (x : OnNoteSine). key (x .target)) (a .sines .count) (a .sines .items) sine sines sine-end e (eqb-true _ _ (right (okSine sine) named o))
 
     pub sine-again : absent (key target) (sineKeys (a .sines)) ≡ false → setOnNoteSine a size cs target sine .code ≡ 6 → ⊥
     unfolding setOnNoteSine cleared sineAt
-    sine-again q e =
-        let p = placeless a size cs target true (okSine sine && eqb (key (sine .target)) (key target)) sineRoom (withSine sine) refl e in
-        let h = fewer (λ (x : OnNoteSine). key (x .target)) (key target) noSine (a .sines .count) (a .sines .items) places (sines-few a cs (p .0)) q in
-        true≢false (sym (lt-ltb _ places h) ∙ p .1)
-
-    pub sine-there : setOnNoteSine a size cs target sine .code ≡ 0 → absent (key target) (sineKeys (setOnNoteSine a size cs target sine .track .sines)) ≡ false
-    unfolding setOnNoteSine cleared sineAt
-    sine-there e =
-        let o = allowed a size cs target _ _ _ (accepted a size cs target true (okSine sine && eqb (key (sine .target)) (key target)) sineRoom (withSine sine) e) in
-        ap (λ (x : Kept). absent (key target) (sineKeys (x .track .sines))) (left-put a size cs target true (okSine sine && eqb (key (sine .target)) (key target)) sineRoom (withSine sine) e)
-        ∙ there (λ (x : OnNoteSine). key (x .target)) (key target) noSine (a .sines .count) (a .sines .items) sine (eqb-true _ _ (right (okSine sine) (eqb (key (sine .target)) (key target)) o))
+    sine-again q e = again a size cs target true (okSine sine && named) sineRoom (withSine sine) (λ (x : OnNoteSine). key (x .target)) (a .sines .count) (a .sines .items) refl refl (sines-few a cs) q e
 
   -- ---- `set_on_cycle`
   module _ (n : ℤ) (v : List ℤ) where
@@ -237,45 +221,44 @@ module _ (a : Track) (size : ℕ) (cs : List Cycle) (target : ℤ) where
       unfolding setOnCycle
       left-cycle = ap by b
 
-      pub cycle-last : setOnCycle a size cs target n v .code ≡ 0
-          → (let r = setOnCycle a size cs target n v in take (r .track .cycles) (r .cycles) ≡ cyclesLeft (cyclesOf a cs) (key target) ++ (cycle ∷ []))
+      zero-by : setOnCycle a size cs target n v .code ≡ 0 → by false .code ≡ 0
+      zero-by e = ap (λ (x : Kept). x .code) (sym left-cycle) ∙ e
+
+      abbrev cycles : Kept → List Cycle
+      cycles r = take (r .track .cycles) (r .cycles)
+
+      cycle-end : cycles (withCycle cycle (cleared a cs (key target))) ≡ cyclesLeft (cyclesOf a cs) (key target) ++ (cycle ∷ [])
       unfolding cleared cycleAt
+      cycle-end = at-the-end (λ (x : Cycle). key (x .target)) (key target) noCycle (a .cycles) cs cycle
+
+      pub cycle-last : setOnCycle a size cs target n v .code ≡ 0 → cycles (setOnCycle a size cs target n v) ≡ cyclesLeft (cyclesOf a cs) (key target) ++ (cycle ∷ [])
+      unfolding cycleAt
       cycle-last e =
-          ap (λ (x : Kept). take (x .track .cycles) (x .cycles))
-          (left-cycle ∙ left-put a size cs target (isShort v) okay (roomBy false) (putBy false) (ap (λ (x : Kept). x .code) (sym left-cycle) ∙ e))
-          ∙ at-the-end (λ (x : Cycle). key (x .target)) (key target) noCycle (a .cycles) cs cycle
+          ap cycles left-cycle
+          ∙ last a size cs target (isShort v) okay (roomBy false) (putBy false) (λ (x : Cycle). key (x .target)) (a .cycles) cs cycle cycles cycle-end (zero-by e)
 
       pub cycle-there : setOnCycle a size cs target n v .code ≡ 0
           → (let r = setOnCycle a size cs target n v in absent (key target) (cycleKeys (cyclesOf (r .track) (r .cycles))) ≡ false)
-      unfolding cleared cycleAt
+      unfolding cycleAt
       cycle-there e =
-          ap (λ (x : Kept). absent (key target) (cycleKeys (cyclesOf (x .track) (x .cycles))))
-          (left-cycle ∙ left-put a size cs target (isShort v) okay (roomBy false) (putBy false) (ap (λ (x : Kept). x .code) (sym left-cycle) ∙ e))
-          ∙ there (λ (x : Cycle). key (x .target)) (key target) noCycle (a .cycles) cs cycle refl
+          ap (λ (x : Kept). absent (key target) (cycleKeys (cyclesOf (x .track) (x .cycles)))) left-cycle
+          ∙ there a size cs target (isShort v) okay (roomBy false) (putBy false) (λ (x : Cycle). key (x .target)) (a .cycles) cs cycle cycles cycle-end (zero-by e) refl
 
       pub cycle-again : absent (key target) (cycleKeys (cyclesOf a cs)) ≡ false → setOnCycle a size cs target n v .code ≡ 6 → ⊥
       unfolding cleared cycleAt
       cycle-again q e =
-          let p = placeless a size cs target (isShort v) okay (roomBy false) (putBy false) (put-code false) (ap (λ (x : Kept). x .code) (sym left-cycle) ∙ e) in
-          let h = fewer (λ (x : Cycle). key (x .target)) (key target) noCycle (a .cycles) cs places (cycles-few a cs (p .0)) q in
-          true≢false (sym (lt-ltb _ places h) ∙ p .1)
+          again a size cs target (isShort v) okay (roomBy false) (putBy false) (λ (x : Cycle). key (x .target)) (a .cycles) cs refl refl (cycles-few a cs) q
+          (ap (λ (x : Kept). x .code) (sym left-cycle) ∙ e)
 
     pub cycle-passes : setOnCycle a size cs target n v .code ≡ 0 → Passes (setOnCycle a size cs target n v)
     unfolding setOnCycle cleared
     cycle-passes e = go (onlyRemoves n (numbers v)) refl e
       where
         go : (b : Bool) → onlyRemoves n (numbers v) ≡ b → by b .code ≡ 0 → Passes (by b)
-        go true q z =
-            let m = accepted a size cs target (isShort v) okay (roomBy true) (putBy true) z in
-            ap (λ (x : Kept). okLent (x .track) (x .cycles)) (left-put a size cs target (isShort v) okay (roomBy true) (putBy true) z)
-            ∙ cleared-kept a cs (key target) (usable a size cs target _ _ _ m)
+        go true q z = passing a size cs target (isShort v) okay (roomBy true) (putBy true) (λ t m o h. cleared-kept a cs (key target) m) z
         go false q z =
-            let m = accepted a size cs target (isShort v) okay (roomBy false) (putBy false) z in
-            let u = usable a size cs target _ _ _ m in
-            ap (λ (x : Kept). okLent (x .track) (x .cycles)) (left-put a size cs target (isShort v) okay (roomBy false) (putBy false) z)
-            ∙ cycle-kept a cs (key target) u cycle
-            (cycle-storable target n (a .timepos) (numbers v) (aimed a size cs target _ _ _ m) (allowed a size cs target _ _ _ m) (play-time a (track-play a (lent-track a cs u))) q)
-            refl (ltb-true _ _ (roomy a size cs target _ _ _ m))
+            passing a size cs target (isShort v) okay (roomBy false) (putBy false)
+            (λ t m o h. cycle-kept a cs (key target) m cycle (cycle-storable target n (a .timepos) (numbers v) t o (play-time a (track-play a (lent-track a cs m))) q) refl (ltb-true _ _ h)) z
 
 by-key : {k k′ : ℕ} (ks : List ℕ) → k′ ≡ k → absent k ks ≡ false → absent k′ ks ≡ false
 by-key ks same e = ap (λ (i : ℕ). absent i ks) same ∙ e

@@ -1,7 +1,7 @@
 -- A table from which a target was taken out and at whose end one was put, over any kind of entry; `f` is the key of one.
 --     at-the-end   what is used then: those of the other targets, and the new one behind them
 --     gone         a target that was taken out has no entry
---     there        one that was put in has
+--     behind       one that was put in has
 --     fewer        where it had one, a place falls vacant
 use mathlib.Core.Path.{_≡_, refl, sym, ap, _∙_}
 use mathlib.Core.Bool.{Bool, true, false, not, _&&_, true≢false}
@@ -58,6 +58,12 @@ module _ {A : Type 0} (f : A → ℕ) (k : ℕ) where
           let rest : absent k (map f l) ≡ false = rw other at e in
           omega (arith, ih rest)
 
+  pub behind : (l : List A) (x : A) → f x ≡ k → absent k (map f (l ++ (x ∷ []))) ≡ false
+  behind l x q = ap (absent k) (map-append f l (x ∷ []) ∙ ap (λ (i : ℕ). map f l ++ (i ∷ [])) q) ∙ absent-last k (map f l)
+
+  pub fewer : (n : ℕ) (l : List A) (most : ℕ) → n ≤ most → absent k (map f (take n l)) ≡ false → length (without out (take n l)) < most
+  fewer n l most h e = omega (arith, fewer-left (take n l) e, length-take n l)
+
   -- of a table: n of l count, z is an unused place
   module _ (z : A) (n : ℕ) (l : List A) where
     abbrev now : List A
@@ -65,9 +71,6 @@ module _ {A : Type 0} (f : A → ℕ) (k : ℕ) where
 
     pub gone : absent k (map f (take (length now) (putFirst z n now l))) ≡ true
     gone = ap (λ (x : List A). absent k (map f x)) (shown z n l now) ∙ none-left (take n l)
-
-    pub fewer : (most : ℕ) → n ≤ most → absent k (map f (take n l)) ≡ false → length now < most
-    fewer most h e = omega (arith, fewer-left (take n l) e, length-take n l)
 
     module _ (x : A) where
       abbrev items : List A
@@ -81,9 +84,3 @@ module _ {A : Type 0} (f : A → ℕ) (k : ℕ) where
           ap (λ (i : ℕ). take i (putFirst z (length now) (take (length now) items ++ (x ∷ [])) items)) (sym m)
           ∙ shown z (length now) items (take (length now) items ++ (x ∷ []))
           ∙ ap (λ (y : List A). y ++ (x ∷ [])) e
-
-      pub there : f x ≡ k → absent k (map f (take (length now + 1) (putFirst z (length now) (take (length now) items ++ (x ∷ [])) items))) ≡ false
-      there q =
-          ap (λ (y : List A). absent k (map f y)) at-the-end
-          ∙ ap (absent k) (map-append f now (x ∷ []) ∙ ap (λ (i : ℕ). map f now ++ (i ∷ [])) q)
-          ∙ absent-last k (map f now)

@@ -29,7 +29,7 @@ abbrev pub isShort : List ℤ → Bool
 isShort v = leb (length v) listLimit
 
 -- ---- what is put in
--- "on-note lists go round only if repeat stands now": the repeat of the target's option
+-- a list goes round if repeat "stands now (for target reservations)": it takes over the repeat of the target's option
 abbrev pub repeatOf : Track → ℤ → ℕ
 repeatOf a target = optionOf (a .options) target .repeat
 

@@ -82,6 +82,7 @@ pub use drawing::write_pb_on_time;
 pub use drawing::write_sine;
 pub use noting::Noted;
 pub use noting::write_cc_on_note;
+pub use waving::write_cc_on_note_wave;
 pub use writing::Outcome;
 
 // ---- the event list

@@ -4,3 +4,4 @@ pub mod Waves
 pub mod Sines
 pub mod Targets
 pub mod Free
+pub mod Figures

@@ -3,21 +3,26 @@
 // counting run goes over the same offers, by the same step, as the writing run that then puts the events in.
 // Contracts are of the slice read whole as records, and of the budget by value.
 ghost use mathlib.Core.Path.{_≡_};
+ghost use mathlib.Core.Bool.{false};
+ghost use mathlib.Core.List.{List};
 ghost use Prim.Native.Nat.{_+_, _≤_, _<_, _^_, min, max};
 ghost use lib.Dec.{ltb};
 ghost use lib.Signed.{mag};
 ghost use lib.ListN.{length};
 ghost use Rattle.sines.specs.Table.{quarterTable};
+ghost use Rattle.budget.specs.Budgets.{stepBudget};
 ghost use Rattle.eventlist.specs.Rows.{rowsOf};
 ghost use Rattle.values.specs.Value.{Ready};
 ghost use Rattle.offers.specs.Rules.{ruleOf, flagged};
 ghost use Rattle.offers.specs.Walks.{walked, emitted, append};
 ghost use Rattle.offers.specs.Pieces.{pointsOf, offers, total, Mild};
+ghost use Rattle.offers.specs.declared.Piece.{Piece};
 ghost use Rattle.offers.specs.Waves.{triples, triplesOf};
 ghost use Rattle.offers.specs.Sources.{restOf, Runs, Fine};
 ghost use Rattle.writing.specs.Origins.{piecesOf, Asked};
 ghost use Rattle.writing.specs.Calls.{windowOf, newEventsFor, outcomeFor, rowsFor};
-ghost use Rattle.writing.specs.Waves.{cutBy, waveOutcome, waveRows};
+ghost use Rattle.writing.specs.Waves.{cutBy, waveTriples, waveOutcome, waveRows};
+ghost use Rattle.writing.specs.Figures.{budgetFor, addedTo, Shaped};
 ghost use Rattle.writing.specs.Sines.{sinePiece, sinePieces};
 use budget::Budget;
 use eventlist::Window;
@@ -340,7 +345,8 @@ pub fn write_core(
     }
 }
 
-fn at_least_one(n: u64) -> u64
+// A count of turns or of steps, which is never 0.
+pub fn at_least_one(n: u64) -> u64
     ensures { λ r. ⌜ r ≡ max n 1 ⌝ }
 {
     if n < 1 {
@@ -500,4 +506,108 @@ pub fn write_sine(
         count,
         &quarter,
     )
+}
+
+// Something that is to be written, made ready: where its pieces come from, how many steps it lasts, and whether its note
+// was cut.
+pub struct Figure {
+    pub origin: Origin,
+    pub long: u64,
+    pub cut: bool,
+}
+
+// A wave over a note of `n` steps, as it is written under a budget.
+pub fn wave_figure(b: Budget, mode: Mode, numbers: &[i32], n: u64) -> Figure
+    requires { ⌜ Fine (now numbers) × (b .maximum ≤ 2 ^ 26) ⌝ }
+    ensures { λ r. ⌜ Shaped r (triples (now (numbers .entry)))
+        × (piecesOf (triples (now (numbers .entry))) (r .origin) ≡ waveTriples b mode (triples (now (numbers .entry))) n)
+        × (r .cut ≡ cutBy mode n (stepBudget b)) ⌝ }
+{
+    let limit = budget::safe_iteration_limit(b) as u64;
+    let steps = least(n, limit);
+    let source = offers::start_source(mode, numbers, steps);
+    let long = wave_long(mode, numbers, steps);
+    Figure {
+        origin: Origin::Wave(source),
+        long: long,
+        cut: is_cut(mode, n, limit),
+    }
+}
+
+// A sine, as it is written.
+pub fn sine_figure(stype: SineType, low: i32, high: i32, len: i32, times: i32) -> Figure
+    requires { ⌜ (mag low ≤ 16383) × (mag high ≤ 16383) × (mag len ≤ 2 ^ 20) × (mag times ≤ 2 ^ 20) ⌝ }
+    ensures { λ r. ⌜ ((ts : List Piece) → Shaped r ts × (piecesOf ts (r .origin) ≡ sinePieces stype low high len times)) × (r .cut ≡ false) ⌝ }
+{
+    let piece = sine_piece(stype, low, high, len, times);
+    let long = piece.len;
+    Figure {
+        origin: Origin::Sine(piece),
+        long: long,
+        cut: false,
+    }
+}
+
+// The stretch of the list that a figure takes out.
+pub fn figure_window(w: Write, figure: Figure) -> Window
+    requires { ⌜ Ready w × (figure .long ≤ 2 ^ 42) ⌝ }
+    ensures { λ r. ⌜ r ≡ windowOf w (figure .long) ⌝ }
+{
+    window_of(w, figure.long)
+}
+
+// The budget that a figure leaves, with nothing written.
+pub fn foresee(
+    w: Write,
+    b: Budget,
+    figure: Figure,
+    numbers: &[i32],
+    quarter: &[u32; 1025],
+) -> Budget
+    requires { ⌜ Ready w × Shaped figure (triples (now numbers)) × (now quarter ≡ quarterTable) ⌝ }
+    ensures { λ r. ⌜ r ≡ flagged (budgetFor w b (piecesOf (triples (now (numbers .entry))) (figure .origin))) (figure .cut) ⌝ }
+{
+    let limit = budget::safe_iteration_limit(b) as u64;
+    let from = Walk {
+        any: false,
+        last: 0,
+        budget: b,
+    };
+    let origin = figure.origin;
+    let walk = count_run(w, from, origin, numbers, limit, quarter);
+    let after = walk.budget;
+    let rest = flag_if(after, limit < figure.long);
+    flag_if(rest, figure.cut)
+}
+
+// Puts a figure's events, for which there is room, behind the first `count`. Its window is not asked.
+pub fn add_figure(
+    w: Write,
+    b: Budget,
+    figure: Figure,
+    numbers: &[i32],
+    events: &mut [i64],
+    count: usize,
+    quarter: &[u32; 1025],
+) -> Outcome
+    requires { ⌜ Ready w × Shaped figure (triples (now numbers)) × (now quarter ≡ quarterTable)
+        × (count + length (newEventsFor w b (piecesOf (triples (now numbers)) (figure .origin))) ≤ length (rowsOf (now events))) ⌝ }
+    ensures { λ r. ⌜ (r ≡ addedTo count (newEventsFor w b (piecesOf (triples (now (numbers .entry))) (figure .origin))) (flagged (budgetFor w b (piecesOf (triples (now (numbers .entry))) (figure .origin))) (figure .cut)))
+        × (rowsOf (now (events .exit)) ≡ append (rowsOf (now (events .entry))) count (newEventsFor w b (piecesOf (triples (now (numbers .entry))) (figure .origin)))) ⌝ }
+{
+    let limit = budget::safe_iteration_limit(b) as u64;
+    let from = Walk {
+        any: false,
+        last: 0,
+        budget: b,
+    };
+    let origin = figure.origin;
+    let done = write_run(w, from, origin, numbers, limit, events, count, quarter);
+    let after = done.walk.budget;
+    let rest = flag_if(after, limit < figure.long);
+    Outcome {
+        code: 0,
+        count: done.count,
+        budget: flag_if(rest, figure.cut),
+    }
 }

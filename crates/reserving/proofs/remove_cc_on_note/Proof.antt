@@ -1,9 +1,8 @@
 -- `remove_cc_on_note`: the number that was asked chooses.
 use mathlib.Core.Path.{_≡_, sym, ap, _∙_}
-use borrow.Author.Needs.{needs, sfits-of}
+use borrow.Author.Needs.{needs}
 use mir.Syntax.{w32}
-use mir.Val.{SFits, toZ, ofZ}
-use mir.Facts.{toZ-ofZ}
+use mir.Val.{toZ, ofZ}
 use Rattle.cycles.specs.Due.{key}
 use Rattle.tables.specs.declared.NoteTable.{NoteTable}
 use Rattle.tables.specs.Tables.{notesWithout}
@@ -12,14 +11,12 @@ use Rattle.state.specs.Calls.{answer}
 use Rattle.state.proofs.Stored.{notes-few}
 use Rattle.reserving.specs.Old.{controllerTarget, aloneRefusal, removeCcOnNote}
 use Rattle.reserving.proofs.Alone.{refused, done, usable}
+use Rattle.reserving.proofs.Handing.{handed}
 use Rattle.reserving.proofs.remove_cc_on_note.Statement.{statement}
 use Rattle.reserving.proofs.remove_cc_on_note.Tie as tie
 
-module _ (c : tie.After-controller) where
-  aimed : toZ w32 (ofZ w32 (c .controller .result)) ≡ controllerTarget (c .before .args .number)
-  aimed =
-      let f : SFits w32 (c .controller .result) = sfits-of (c .controller .ok) in
-      toZ-ofZ f ∙ c .controller .ensures ∙ ap controllerTarget (toZ-ofZ (c .before .fits .number))
+aimed : (c : tie.After-controller) → toZ w32 (ofZ w32 (c .controller .result)) ≡ controllerTarget (c .before .args .number)
+aimed c = handed w32 controllerTarget (c .controller .ok) (c .before .fits .number) (c .controller .ensures)
 
 code-is : (c : tie.After-asked-alone) → c .asked-alone .result ≡ aloneRefusal (c .before .before .args .track) (controllerTarget (c .before .before .args .number))
 code-is c = c .asked-alone .ensures ∙ ap (aloneRefusal (c .before .before .args .track)) (aimed (c .before))

@@ -1,12 +1,11 @@
 -- `set_pb_on_note_wave`: `set_on_note_wave` of the bend as a target.
 use mathlib.Core.Path.{ap, _∙_}
-use borrow.Author.Needs.{needs, sfits-of}
+use borrow.Author.Needs.{needs}
 use lib.IntN.{ℤ}
 use mir.Syntax.{w32}
-use mir.Val.{SFits}
-use mir.Facts.{toZ-ofZ}
 use Rattle.reserving.specs.Setting.{setOnNoteWave}
 use Rattle.reserving.specs.Old.{bendTarget}
+use Rattle.reserving.proofs.Handing.{handed}
 use Rattle.reserving.proofs.set_pb_on_note_wave.Statement.{statement}
 use Rattle.reserving.proofs.set_pb_on_note_wave.Tie as tie
 
@@ -20,9 +19,8 @@ returns : tie.Need-returns
 returns c =
     let t = c .before in
     let s = t .before in
-    let f : SFits w32 (t .bend .result) = sfits-of (t .bend .ok) in
     c .set-on-note-wave .ensures
-    ∙ ap (λ (z : ℤ). setOnNoteWave (s .args .track) (s .args .size) (s .args .cycles) z 0 (s .args .list .now)) (toZ-ofZ f ∙ t .bend .ensures ∙ ap bendTarget (toZ-ofZ (s .fits .big)))
+    ∙ ap (λ (z : ℤ). setOnNoteWave (s .args .track) (s .args .size) (s .args .cycles) z 0 (s .args .list .now)) (handed w32 bendTarget (t .bend .ok) (s .fits .big) (t .bend .ensures))
 
 pub set-pb-on-note-wave-spec : {M : Type 1} → statement M
 set-pb-on-note-wave-spec = tie.close (tie.spec bend-requires set-on-note-wave-requires returns)
