@@ -33,7 +33,7 @@ use Rattle.waving.proofs.Reserved.{wave-aimed, sine-aimed}
 use Rattle.waving.proofs.Parting.{keyAt, Placed, Lone}
 
 -- ---- lists
-each-map : {A B : Type 0} (f : A → B) (p : A → Bool) (P : B → Type 0) → ((x : A) → p x ≡ true → P (f x)) → (l : List A) → all p l ≡ true → Each P (map f l)
+pub each-map : {A B : Type 0} (f : A → B) (p : A → Bool) (P : B → Type 0) → ((x : A) → p x ≡ true → P (f x)) → (l : List A) → all p l ≡ true → Each P (map f l)
 unfolding all
 each-map f p P g [] e = tt
 each-map f p P g (x ∷ l) e = (g x (left (p x) (all p l) e), each-map f p P g l (right (p x) (all p l) e))
@@ -88,11 +88,11 @@ module _ (a : Track) (n : ℕ) where
   sine-keys = map-both (sineDrawing a) keyAt (take (a .sines .count) (a .sines .items))
 
   module _ (h : okTrack a ≡ true) where
-    all-waves : all okWave (take (a .waves .count) (a .waves .items)) ≡ true
+    pub all-waves : all okWave (take (a .waves .count) (a .waves .items)) ≡ true
     unfolding okWaves counted
     all-waves = right (leb (a .waves .count) places) (all okWave (take (a .waves .count) (a .waves .items))) (stored-waves a h)
 
-    all-sines : all okSine (take (a .sines .count) (a .sines .items)) ≡ true
+    pub all-sines : all okSine (take (a .sines .count) (a .sines .items)) ≡ true
     unfolding okSines counted
     all-sines = right (leb (a .sines .count) places) (all okSine (take (a .sines .count) (a .sines .items))) (stored-sines a h)
 

@@ -6,3 +6,4 @@ pub mod Parting
 pub mod Alone
 pub mod Room
 pub mod Refusing
+pub mod Promises

@@ -75,10 +75,10 @@ module _ (ds : List Drawing) (lone : Lone ds) (b : Budget) (R : List Event) (cou
             let t : ltb (length R) (length (stand .events)) ≡ false = le-ltb (length R) (length (stand .events)) (omega arith) in
             let c : n + length news ≡ length (stand .events) = omega arith in (
               u
-              ∙ ap₂ (λ (m : ℕ) (x : Budget). record { code = 0; count = m; budget = x }) c (sym (ap (λ (s : Stand). s .budget) (parted ds lone b es)))
-              ∙ sym (ap (λ (x : Bool). answerOf (cond x 7 0) count b stand) t),
+                  ∙ ap₂ (λ (m : ℕ) (x : Budget). record { code = 0; count = m; budget = x }) c (sym (ap (λ (s : Stand). s .budget) (parted ds lone b es)))
+                  ∙ sym (ap (λ (x : Bool). answerOf (cond x 7 0) count b stand) t),
               v ∙ ap₂ (λ (x : List Event) (m : ℕ). append x m news) r p
-              ∙ append-put zeroEvent count stays news R
-              ∙ ap (λ (x : List Event). putFirst zeroEvent count x R) (sym left-is)
-              ∙ sym (ap (λ (x : Bool). rowsLeft (cond x 7 0) count stand R) t),
+                  ∙ append-put zeroEvent count stays news R
+                  ∙ ap (λ (x : List Event). putFirst zeroEvent count x R) (sym left-is)
+                  ∙ sym (ap (λ (x : Bool). rowsLeft (cond x 7 0) count stand R) t),
             )

@@ -238,11 +238,11 @@ fn add_all(
     ensures { λ r. ⌜ (r ≡ addedTo count (passes (drawingsOf track n) b .news) (passes (drawingsOf track n) b .budget))
         × (rowsOf (now (events .exit)) ≡ append (rowsOf (now (events .entry))) count (passes (drawingsOf track n) b .news)) ⌝ }
 {
-    let total = track.waves.count + track.sines.count;
+    let all = track.waves.count + track.sines.count;
     let mut rest = b;
     let mut c = count;
     let mut i: usize = 0;
-    while (i < total) & (rest.over == 0) {
+    while (i < all) & (rest.over == 0) {
         let d = draft_at(track, n, rest, i);
         let o = add_draft(d, rest, events, c, quarter);
         rest = o.budget;

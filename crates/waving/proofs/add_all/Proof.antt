@@ -46,8 +46,8 @@ module _ (t : tie.Then1 Inv-loop μ-loop) where
   most : head .loop .rest .maximum ≤ 2 ^ 26
   most = let m = head .loop .inv .1 .pass .most in let p = start .pre .1 in omega arith
 
-add-total : tie.Need-add-total Inv-loop μ-loop
-add-total c = let s = c .before in omega (arith, total-few s)
+add-all : tie.Need-add-all Inv-loop μ-loop
+add-all c = let s = c .before in omega (arith, total-few s)
 
 loop-holds : tie.Need-loop-holds Inv-loop μ-loop
 loop-holds c = let A = c .before .args in (refl, put-begun (drawingsOf (A .track) (A .n)) (A .b) (rowsOf (A .events .now)) (A .count))
@@ -113,7 +113,7 @@ add-all-spec =
     (tie.spec
     Inv-loop
     μ-loop
-    add-total
+    add-all
     loop-holds
     draft-at-requires
     add-draft-requires

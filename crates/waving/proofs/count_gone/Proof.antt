@@ -16,7 +16,6 @@ use Rattle.waving.proofs.Clearing.{gone-le, one-gone, few-kept, gone-do
 use Rattle.waving.proofs.count_gone.Statement.{statement}
 use Rattle.waving.proofs.count_gone.Tie as tie
 
-
 abbrev Inv-loop : tie.InvT-loop
 Inv-loop events count m windows n₀ i₀ n i = (i ≤ m) × (n + gone (drop i (take m windows)) (eventsOf events count) ≡ gone (take m windows) (eventsOf events count))
 

@@ -1,0 +1,177 @@
+-- What a customer leans on, of the call that writes a note's waves and sines.
+--     note-refused    a call that is refused leaves list, count and budget as they were
+--     flag-stops      with the flag set at entry nothing changes
+--     note-leaves     else the list is what no window took, with what was added behind it
+--     note-bytes      the bytes used rise by 8 for each event that is added
+--     note-times      whose times are those of events
+--     wave-fills      an Expand or a Repeat lasts the note's steps, cut to the step budget (offers: Starting.long)
+use mathlib.Core.Path.{_≡_, refl, sym, ap, _∙_}
+use mathlib.Core.Bool.{Bool, true, false, cond, _&&_, _||_}
+use mathlib.Core.List.{List, [], _∷_, _++_, map}
+use Prim.Native.Nat.{ℕ, zero, suc, _+_, _*_, _≤_, _<_, _^_, min}
+use native.Mathlib.Omega.{arith}
+use borrow.Author.Tests.{ne-eqb}
+use lib.Dec.{eqb, leb}
+use lib.IntN.{ℤ, pos}
+use lib.ListN.{length, getD, take}
+use Rattle.laws.specs.Integers.{inside, sized}
+use Rattle.laws.specs.Lists.{all}
+use Rattle.laws.proofs.Ranges.{left, right}
+use Rattle.numbers.specs.Ranges.{isTime, isNumber, isLength, isRandom, isEventTime}
+use Rattle.budget.specs.declared.Budget.{Budget}
+use Rattle.budget.specs.Budgets.{stepBudget}
+use Rattle.counted.specs.Numbers.{shown}
+use Rattle.events.specs.declared.Event.{Event}
+use Rattle.sines.specs.Kinds.{sineType}
+use Rattle.values.specs.declared.WriteOption.{WriteOption}
+use Rattle.values.specs.Options.{newOption, okOption}
+use Rattle.cycles.specs.Due.{key}
+use Rattle.offers.specs.declared.Mode.{Mode}
+use Rattle.offers.specs.declared.Mode.the-variants.{Normal, Expand, Repeat}
+use Rattle.offers.specs.Pieces.{total}
+use Rattle.offers.specs.Waves.{triples, triplesOf}
+use Rattle.writing.proofs.Allowed.{wave-far, sine-far}
+use Rattle.writing.proofs.Every.{Each, each-append}
+use Rattle.writing.proofs.Lasting.{lasts-expand, lasts-repeat}
+use Rattle.writing.proofs.Promises.{in-time}
+use Rattle.tables.specs.declared.OnNoteWave.{OnNoteWave}
+use Rattle.tables.specs.declared.OnNoteSine.{OnNoteSine}
+use Rattle.tables.specs.Reservations.{okWave, okSine}
+use Rattle.state.specs.declared.Track.{Track}
+use Rattle.state.specs.Track.{withTimepos}
+use Rattle.state.specs.Tests.{okOptions, okTrack}
+use Rattle.state.proofs.Parts.{track-play, track-options}
+use Rattle.state.proofs.Play.{play-time}
+use Rattle.state.proofs.Keeping.{timepos-kept}
+use Rattle.drawing.specs.Options.{optionOf}
+use Rattle.drawing.specs.Write.{writeOf}
+use Rattle.drawing.proofs.Asking.{some}
+use Rattle.waving.specs.Drawings.{Drawing, modeOf, waveDrawing, sineDrawing, drawingsOf}
+use Rattle.waving.specs.Calls.{Stand, leaves, drawn, drawnAll, noteSteps, afterNote, noteRefusal, noteWritten, noteLeft}
+use Rattle.waving.specs.Passes.{Passes, noPass, passFirst, passes, newsOf}
+use Rattle.waving.proofs.Reserved.{wave-fine, sine-length, sine-times}
+use Rattle.waving.proofs.Passing.{pass-used, leaves-maximum}
+use Rattle.waving.proofs.Parting.{inPasses, parted}
+use Rattle.waving.proofs.Alone.{each-map, all-waves, all-sines, drawings-lone}
+
+-- ---- refusals
+module _ (store : ℕ) (a : Track) (start : ℤ) (b : Budget) (l : List ℤ) (count : ℕ) where
+  pub note-refused : (noteRefusal store a start b l count ≡ 0 → ⊥)
+      → (noteWritten store a start b l count ≡ record { code = noteRefusal store a start b l count; count = count; budget = b }) × (noteLeft store a start b l count ≡ l)
+  note-refused h = let e = ne-eqb (noteRefusal store a start b l count) 0 h in (rw e, rw e)
+
+-- ---- the flag
+stopped : (ds : List Drawing) (s : Stand) → (s .budget .over ≡ 0 → ⊥) → drawnAll ds s ≡ s
+unfolding drawnAll
+stopped [] s h = refl
+stopped (d ∷ ds) s h = ap (λ (t : Bool). cond t (drawnAll ds (drawn d s)) s) (ne-eqb (s .budget .over) 0 h)
+
+pub flag-stops : (a : Track) (start : ℤ) (b : Budget) (es : List Event) → (b .over ≡ 0 → ⊥) → afterNote a start b es ≡ record { budget = b; events = es }
+flag-stops a start b es h = stopped (drawingsOf (withTimepos a start) (noteSteps a start)) (record { budget = b; events = es }) h
+
+-- ---- a drawing whose events stand in time
+record Timely (d : Drawing) : Type 0 where
+  often : 0 < d .write .freq
+  time : isTime (d .write .time) ≡ true
+  delay : isLength (d .write .option .delay) ≡ true
+  far : (b : Budget) → b .maximum ≤ 2 ^ 26 → total (d .pieces b) ≤ 2 ^ 40
+
+all-append : {A : Type 0} (p : A → Bool) (x y : List A) → all p x ≡ true → all p y ≡ true → all p (x ++ y) ≡ true
+unfolding all
+all-append p [] y e f = f
+all-append p (z ∷ x) y e f = rw (left (p z) (all p x) e) (all-append p x y (right (p z) (all p x) e) f)
+
+abbrev pub timed : Event → Bool
+timed e = isEventTime (e .time)
+
+news-timed : (ds : List Drawing) (b : Budget) → Each Timely ds → b .maximum ≤ 2 ^ 26 → all timed (passes ds b .news) ≡ true
+unfolding passes all
+news-timed [] b h m = refl
+news-timed (d ∷ ds) b h m = go (eqb (b .over) 0) (news-timed ds (leaves d b) (h .1) (rw (leaves-maximum d b) m))
+  where
+    go : (t : Bool) → all timed (passes ds (leaves d b) .news) ≡ true → all timed (cond t (passFirst d b (passes ds (leaves d b))) (noPass b) .news) ≡ true
+    go true ih = all-append timed (newsOf d b) (passes ds (leaves d b) .news) (in-time (d .write) b (d .pieces b) (stepBudget b) (h .0 .often) (h .0 .time) (h .0 .delay) (h .0 .far b m)) ih
+    go false ih = refl
+
+-- an option of a track that passes its test
+option-at : (l : List WriteOption) (i : ℕ) → all okOption l ≡ true → okOption (getD l i newOption) ≡ true
+unfolding all okOption isLength isRandom sized inside
+option-at [] i e = refl
+option-at (x ∷ l) zero e = left (okOption x) (all okOption l) e
+option-at (x ∷ l) (suc i) e = option-at l i (right (okOption x) (all okOption l) e)
+
+delayed : (o : WriteOption) → okOption o ≡ true → isLength (o .delay) ≡ true
+unfolding okOption
+delayed o e =
+    let ranged = eqb (o .ranged) 0 || (isNumber (o .low) && isNumber (o .high)) in
+    right (leb (o .ranged) 1 && leb (o .repeat) 1 && ranged) (isLength (o .delay))
+    (left (leb (o .ranged) 1 && leb (o .repeat) 1 && ranged && isLength (o .delay)) (isRandom (o .random)) e)
+
+few-steps : (n : ℕ) (b : Budget) → b .maximum ≤ 2 ^ 26 → min n (stepBudget b) ≤ 2 ^ 24
+few-steps n b h = omega arith
+
+-- ---- a track that passes its test, at a note's start
+module _ (a : Track) (h : okTrack a ≡ true) where
+  own-delay : (target : ℤ) → isLength (optionOf a target .delay) ≡ true
+  unfolding optionOf okOptions
+  own-delay target = delayed (getD (a .options) (key target) newOption) (option-at (a .options) (key target) (track-options a h))
+
+  module _ (n : ℕ) where
+    wave-timely : (e : OnNoteWave) → okWave e ≡ true → Timely (waveDrawing a n e)
+    unfolding waveDrawing writeOf
+    wave-timely e k =
+        record {
+          often = some (e .target) (a .ccfreq) (a .pbfreq) (a .timebase);
+          time = play-time a (track-play a h);
+          delay = own-delay (e .target);
+          far = λ (b : Budget) (m : b .maximum ≤ 2 ^ 26). wave-far (shown (e .values)) (modeOf (e .mode)) (min n (stepBudget b)) (wave-fine e k) (few-steps n b m);
+        }
+
+    sine-timely : (e : OnNoteSine) → okSine e ≡ true → Timely (sineDrawing a e)
+    unfolding sineDrawing writeOf
+    sine-timely e k =
+        record {
+          often = some (e .target) (a .ccfreq) (a .pbfreq) (a .timebase);
+          time = play-time a (track-play a h);
+          delay = own-delay (e .target);
+          far = λ (b : Budget) (m : b .maximum ≤ 2 ^ 26). sine-far (sineType (pos (e .shape))) (e .low) (e .high) (e .length) (e .times) (sine-length e k) (sine-times e k);
+        }
+
+    all-timely : Each Timely (drawingsOf a n)
+    unfolding drawingsOf
+    all-timely =
+        each-append Timely (map (waveDrawing a n) (take (a .waves .count) (a .waves .items))) (map (sineDrawing a) (take (a .sines .count) (a .sines .items)))
+        (each-map (waveDrawing a n) okWave Timely wave-timely (take (a .waves .count) (a .waves .items)) (all-waves a n h))
+        (each-map (sineDrawing a) okSine Timely sine-timely (take (a .sines .count) (a .sines .items)) (all-sines a n h))
+
+-- ---- what a note's waves and sines leave
+module _ (a : Track) (start : ℤ) (b : Budget) (h : okTrack a ≡ true) (t : isTime start ≡ true) where
+  abbrev pub notePasses : Passes
+  notePasses = passes (drawingsOf (withTimepos a start) (noteSteps a start)) b
+
+  at-start : okTrack (withTimepos a start) ≡ true
+  at-start = timepos-kept a h start t
+
+  pub note-leaves : (es : List Event) → afterNote a start b es ≡ inPasses notePasses es
+  note-leaves es = parted (drawingsOf (withTimepos a start) (noteSteps a start)) (drawings-lone (withTimepos a start) (noteSteps a start) at-start) b es
+
+  pub note-bytes : (es : List Event) → afterNote a start b es .budget .used ≡ b .used + 8 * length (notePasses .news)
+  note-bytes es = ap (λ (s : Stand). s .budget .used) (note-leaves es) ∙ pass-used (drawingsOf (withTimepos a start) (noteSteps a start)) b
+
+  -- within ±2^42
+  pub note-times : b .maximum ≤ 2 ^ 26 → all timed (notePasses .news) ≡ true
+  note-times m = news-timed (drawingsOf (withTimepos a start) (noteSteps a start)) b (all-timely (withTimepos a start) at-start (noteSteps a start)) m
+
+-- ---- how long a wave lasts
+module _ (a : Track) (n : ℕ) (e : OnNoteWave) (b : Budget) (some-steps : n ≡ 0 → ⊥) (some-length : total (triples (shown (e .values))) ≡ 0 → ⊥) where
+  cut-some : min n (stepBudget b) ≡ 0 → ⊥
+  cut-some q = some-steps (omega arith)
+
+  pub wave-fills : (modeOf (e .mode) ≡ Normal → ⊥) → total (waveDrawing a n e .pieces b) ≡ min n (stepBudget b)
+  unfolding waveDrawing
+  wave-fills h = go (modeOf (e .mode)) h
+    where
+      go : (m : Mode) → (m ≡ Normal → ⊥) → total (triplesOf m (triples (shown (e .values))) (min n (stepBudget b))) ≡ min n (stepBudget b)
+      go Normal k = absurd (k refl)
+      go Expand k = sym (lasts-expand (triples (shown (e .values))) (min n (stepBudget b)) cut-some some-length)
+      go Repeat k = sym (lasts-repeat (triples (shown (e .values))) (min n (stepBudget b)) cut-some some-length)
