@@ -1,0 +1,5 @@
+pub mod Again
+pub mod Turns
+pub mod Moving
+pub mod Stepping
+pub mod InPlace

@@ -1,0 +1,3 @@
+pub mod Passing
+pub mod Moving
+pub mod Writing
