@@ -13,7 +13,10 @@ A straight line may hold: calls with no `requires`; `*r` of a `&mut` parameter r
 `s.len()`; a struct made of such. A `&mut [T]` that is handed on twice is lent again (crate lending, proofs/Again).
 A loop is `let mut s = state; let mut i = 0; while i < t.len() { let r = f(.., t[i], .., s); t[i] = r.A; s = r.B; i += 1; } s`,
 where f may be lent one slice of numbers besides (crate lending, proofs/Turns, has its invariant).
-Parameters must not be called x, at, f, t, w, C, A, H or W.
+By value a parameter may be a number, a struct, or an array of structs; a result may be missing. A struct of OPAQUE is only handed
+on: the walk has its type and its machine value as variables, and the function's text with the other types by name, since the
+track's type, written out in each step, is more than the prover takes in one declaration.
+Parameters must not be called x, at, f, t, w, C, A, H or W. `rattle fmt --write` lays the file out.
 """
 import os, re, subprocess, sys
 
@@ -319,7 +322,7 @@ class Subject:
         gone = '(λ κs x f. refl)'
         return {'val': f'goes-dropped {m} {r} yes {gone}', 'slice': f'goes-dropped {m} (shrSliceOf ({j} ∷ []) tt {r}) yes {gone}', 'ref': f'goes-ref {m} {j} tt {r}', 'table': f'{slice_word} {m} {j} tt {r}'}[p[1]]
 
-    # the function's own text, its types by their names: small where the table of all its types is large
+    # the function's text, its types by their names
     def ty(self, x):
         if isinstance(x, str):
             return x
@@ -866,21 +869,6 @@ class Loop(Straight):
         w.say(f'looped {" ".join(loc(i) for i in range(s.count))}')
         return w.text(8)
 
-    def local_type(self, i):
-        x = self.s.locals[i][1]
-        named = lambda y: f'{y[1][1].split("::")[1][:-1]}'
-        if x == 'tyBool' or x == 'tyPtr':
-            return x
-        if x[0] == 'tyInt':
-            return f'(tyInt w{x[1]})'
-        if x[0] == 'tyNamed':
-            return f'{named(x)}′l.mir'
-        if x[0] == 'tyRef':
-            return f'(tyRef {x[1] if x[1] == "erased" else "(named " + x[1][1] + ")"} mut (tyInt w{x[3][1]}))'
-        ref = x[2][1]
-        life = 'erased' if ref[1] == 'erased' else f'(named {ref[1][1]})'
-        return f'(sliceTy (tyRef {life} mut {"(tyInt w" + ref[3][1] + ")" if ref[3][0] == "tyInt" else "(pointee (" + self.T.row + " .written))"}))'
-
     def text(self):
         s, T, n, law = self.s, self.T, self.n, self.law
         stays_in, calls = self.stays_in(), self.calls
@@ -890,7 +878,7 @@ class Loop(Straight):
         held.update({self.state: self.S.value(self.st), self.index: '(vint w64 (t .i))'})
         rest = []
         for i in reversed(range(s.count)):
-            ty = self.local_type(i)
+            ty = s.ty(s.locals[i][1])
             rest += [f'‵ (fat fullShare {ty} {loc(i)} 0 {held[i]})' if i in held else f'‵ (froom {ty} {loc(i)} 0)', f'‵ (fdies {ty} {loc(i)})']
         l = self.list
         own = [f'‵ (MutSlice (named {s.life[l[0]]}) {s.k(l[0])} {s.type(l[2]).row} .own (ref-{l[0]} ({l[0]} .name) (t .s .events)) (sliceVal ({l[0]} .ptr) (length (t .s .events)) ∷ []))', f'‵ (flft {s.k(l[0])} {s.q(l[0])})'] if l else []
@@ -910,7 +898,7 @@ class Loop(Straight):
               f'  module _ (𝓣 : Tables 𝓤 H) (fm : FmC 𝓤 H (W .laws) (𝓣 .C)) {known} where',
               '    abbrev C : Calls 𝓤 H', '    C = 𝓣 .C', '', '    abbrev Λ : Loops 𝓤 H', '    Λ = 𝓣 .Λ', '',
               f'    module _ ({" ".join(loc(i) for i in range(s.count))} : ℕ) where',
-              '      abbrev En : Env 𝓤 H', '      En = ' + ' ∷ '.join(f'({self.local_type(i).strip("()") if " " not in self.local_type(i) else self.local_type(i)}, {loc(i)})' for i in range(s.count)) + ' ∷ []', '',
+              '      abbrev En : Env 𝓤 H', '      En = ' + ' ∷ '.join(f'({s.ty(s.locals[i][1])}, {loc(i)})' for i in range(s.count)) + ' ∷ []', '',
               '      -- what stands at the test', f'      abbrev At : Turn {law} → List (Item 𝓤)', '      At t = ' + '\n          ∷ '.join(stand) + '\n          ∷ []', '',
               f'      abbrev Turned : Turn {law} → Out → SProp 𝓤',
               f'      Turned t = afterTurn 𝓤 H (Below 𝓤 H A (Nearer {law}) At t) (afterBlock 𝓤 H (afterSeq 𝓤 H (Wp 𝓤 H C Λ En mir′.t-4 (atReturn 𝓤 H En Post)) (atReturn 𝓤 H En Post)))', '',

@@ -1,15 +1,14 @@
 -- The waves and sines of a track that passes its test are of different targets.
 use mathlib.Core.Path.{_≡_, refl, sym, ap, ap₂, _∙_}
 use mathlib.Core.Bool.{Bool, true, false, cond, _&&_}
-use mathlib.Core.List.{List, [], _∷_, _++_, map, map-append, append-assoc, append-nil}
-use Prim.Native.Nat.{ℕ, _≤_, _<_, min}
+use mathlib.Core.List.{List, [], _∷_, _++_, map, map-append, append-assoc}
+use Prim.Native.Nat.{ℕ, min}
 use native.Mathlib.Omega.{arith}
 use borrow.Author.Tests.{le-leb, leb-true, leb-false}
 use lib.Dec.{leb}
 use lib.IntN.{ℤ, pos, negsuc}
-use lib.Signed.{leZ}
 use lib.ListN.{take}
-use Rattle.laws.specs.Integers.{inside, cut}
+use Rattle.laws.specs.Integers.{inside}
 use Rattle.laws.specs.Lists.{all, counted}
 use Rattle.laws.specs.Keys.{absent, distinct}
 use Rattle.laws.proofs.Ranges.{left, right}
@@ -28,7 +27,7 @@ use Rattle.state.specs.Tests.{okTrack}
 use Rattle.state.proofs.Stored.{stored-waves, stored-sines, stored-lone}
 use Rattle.drawing.specs.Write.{writeOf}
 use Rattle.drawing.proofs.Asking.{some}
-use Rattle.waving.specs.Drawings.{Drawing, waveDrawing, sineDrawing, drawingsOf}
+use Rattle.waving.specs.Drawings.{waveDrawing, sineDrawing, drawingsOf}
 use Rattle.waving.proofs.Reserved.{wave-aimed, sine-aimed}
 use Rattle.waving.proofs.Parting.{keyAt, Placed, Lone}
 

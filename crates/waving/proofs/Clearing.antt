@@ -1,14 +1,13 @@
 -- Windows, one after the other: what none of them takes, and how many they take where no event is taken twice.
-use mathlib.Core.Path.{_≡_, refl, sym, ap, ap₂, _∙_}
-use mathlib.Core.Bool.{Bool, true, false}
+use mathlib.Core.Path.{_≡_, refl, sym, ap, _∙_}
 use mathlib.Core.List.{List, [], _∷_, _++_, append-assoc}
-use Prim.Native.Nat.{ℕ, zero, suc, _+_, _-_, _*_, _≤_, _<_, max}
+use Prim.Native.Nat.{ℕ, suc, _+_, _-_, _*_, _≤_, _<_, max}
 use native.Mathlib.Nat.{suc-mul, mul-le-mul, le-refl}
 use native.Mathlib.Numerals.{add-one}
 use native.Mathlib.Omega.{arith}
-use lib.ListN.{length, getD, take, drop, replicate, length-append, length-take, length-drop, length-replicate, take-append-drop, replicate-append-replicate, drop-of-length-le}
+use lib.ListN.{length, getD, take, drop, replicate, length-append, length-drop, length-replicate, take-append-drop, replicate-append-replicate, drop-of-length-le}
 use lib.Seq.{drop-cons, take-append-seam, drop-at, getD-take, length-take-le}
-use Rattle.laws.specs.Lists.{unless, without, putFirst}
+use Rattle.laws.specs.Lists.{without, putFirst}
 use Rattle.laws.proofs.Compact.{length-without}
 use Rattle.events.specs.declared.Event.{Event}
 use Rattle.events.specs.Events.{zeroEvent}

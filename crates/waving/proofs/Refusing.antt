@@ -1,13 +1,11 @@
 -- The answers of `write_cc_on_note_wave`, read off its tests in their order.
-use mathlib.Core.Path.{_≡_, refl, ap, _∙_}
+use mathlib.Core.Path.{_≡_, refl}
 use mathlib.Core.Bool.{Bool, true, false, cond, _&&_}
 use mathlib.Core.List.{List}
 use Prim.Native.Nat.{ℕ, _≤_, _^_}
-use native.Mathlib.Omega.{arith}
 use borrow.Author.Tests.{leb-true}
 use lib.Dec.{eqb, leb}
 use lib.IntN.{ℤ}
-use lib.ListN.{length}
 use Rattle.laws.specs.Lists.{putFirst}
 use Rattle.laws.specs.Rows.{flat}
 use Rattle.laws.proofs.Ranges.{left}
@@ -15,7 +13,6 @@ use Rattle.numbers.specs.Limits.{byteLimit}
 use Rattle.numbers.specs.Ranges.{isTime, isBytes}
 use Rattle.budget.specs.declared.Budget.{Budget}
 use Rattle.budget.specs.Budgets.{okBudget}
-use Rattle.events.specs.declared.Event.{Event}
 use Rattle.events.specs.Events.{zeroEvent}
 use Rattle.eventlist.specs.Rows.{numbersOf, rowsOf, eventsOf, Whole}
 use Rattle.eventlist.specs.Sound.{isList, okEvents}

@@ -6,7 +6,7 @@ use native.Mathlib.Omega.{arith}
 use borrow.Author.Tests.{leb-true}
 use lib.Dec.{leb, eqb}
 use lib.Signed.{mag}
-use lib.ListN.{length, take, length-take}
+use lib.ListN.{length, length-take}
 use Rattle.laws.specs.Lists.{all, counted}
 use Rattle.laws.proofs.Ranges.{left, right, sized-mag}
 use Rattle.numbers.specs.Limits.{listLimit}

@@ -1,19 +1,18 @@
 -- The whole of a call over a buffer, told by its passes: what the windows leave and what is added decide the refusal, and where
 -- there is room the list is what they leave with what is added behind it.
-use mathlib.Core.Path.{_≡_, refl, sym, ap, ap₂, _∙_}
+use mathlib.Core.Path.{_≡_, sym, ap, ap₂, _∙_}
 use mathlib.Core.Bool.{Bool, true, false, cond}
 use mathlib.Core.List.{List, _++_}
 use Prim.Native.Nat.{ℕ, _+_, _-_, _≤_, _<_}
 use native.Mathlib.Omega.{arith}
 use borrow.Author.Tests.{lt-ltb, le-ltb}
-use lib.Dec.{eqb, ltb}
+use lib.Dec.{ltb}
 use lib.ListN.{length, take, length-append}
 use lib.Seq.{length-take-le}
 use Rattle.laws.specs.Lists.{putFirst}
 use Rattle.budget.specs.declared.Budget.{Budget}
 use Rattle.events.specs.declared.Event.{Event}
 use Rattle.events.specs.Events.{zeroEvent}
-use Rattle.eventlist.specs.declared.Window.{Window}
 use Rattle.offers.specs.Walks.{append}
 use Rattle.writing.specs.declared.Outcome.{Outcome}
 use Rattle.writing.specs.Figures.{addedTo}
@@ -21,7 +20,7 @@ use Rattle.writing.proofs.Calling.{append-put}
 use Rattle.waving.specs.Drawings.{Drawing}
 use Rattle.waving.specs.Calls.{Stand, drawnAll, answerOf, rowsLeft, wroteAll, rowsAll}
 use Rattle.waving.specs.Passes.{passes, withoutAll, gone}
-use Rattle.waving.proofs.Parting.{Lone, inPasses, parted, parts}
+use Rattle.waving.proofs.Parting.{Lone, parted, parts}
 
 module _ (ds : List Drawing) (lone : Lone ds) (b : Budget) (R : List Event) (count : ℕ) (fit : count ≤ length R) where
   abbrev es : List Event

@@ -3,7 +3,7 @@
 use mathlib.Core.Path.{_≡_}
 use mathlib.Core.Bool.{true, cond}
 use mathlib.Core.List.{List, [], _∷_, _++_}
-use Prim.Native.Nat.{ℕ, _+_, _-_, _≤_}
+use Prim.Native.Nat.{ℕ, _+_, _-_, _*_, _≤_}
 use lib.Dec.{eqb}
 use lib.ListN.{length, take}
 use Rattle.laws.specs.Lists.{without}
@@ -89,8 +89,12 @@ pub record Drafts (r : Draft) (d : Drawing) (b : Budget) : Type 0 where
   pub pieces : piecesIn r ≡ d .pieces b
   pub cut : r .figure .cut ≡ d .cut b
 
+-- sixteen waves and sixteen sines
+abbrev pub figureLimit : ℕ
+figureLimit = 2 * places
+
 -- a plan has the windows, and counts the events
 pub record Plans (r : Plan) (p : Passes) : Type 0 where
-  pub few : r .count ≤ 32
+  pub few : r .count ≤ figureLimit
   pub windows : take (r .count) (r .windows) ≡ p .windows
   pub added : r .added ≡ length (p .news)

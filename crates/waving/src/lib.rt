@@ -4,10 +4,7 @@
 // this leaves what writing one after the other would.
 ghost use mathlib.Core.Path.{_≡_};
 ghost use mathlib.Core.Bool.{true};
-ghost use mathlib.Core.List.{List};
 ghost use Prim.Native.Nat.{_+_, _≤_, _<_, _^_};
-ghost use lib.IntN.{_-ℤ_};
-ghost use lib.Signed.{mag};
 ghost use lib.ListN.{length, take};
 ghost use Rattle.laws.specs.Integers.{cut};
 ghost use Rattle.laws.specs.Lists.{putFirst};
@@ -26,9 +23,9 @@ ghost use Rattle.state.specs.Tests.{okTrack};
 ghost use Rattle.writing.specs.Origins.{piecesOf};
 ghost use Rattle.writing.specs.Waves.{cutBy, waveTriples};
 ghost use Rattle.writing.specs.Figures.{addedTo, Shaped};
-ghost use Rattle.waving.specs.Drawings.{modeOf, waveDrawing, sineDrawing, drawingsOf, drawingAt, Drawing};
+ghost use Rattle.waving.specs.Drawings.{modeOf, waveDrawing, sineDrawing, drawingsOf, drawingAt};
 ghost use Rattle.waving.specs.Calls.{wroteAll, rowsAll, noteWritten, noteLeft};
-ghost use Rattle.waving.specs.Passes.{windowAt, newsOf, passes, withoutAll, gone, Held, Drawable, Drafts, Plans, eventsIn, budgetOf};
+ghost use Rattle.waving.specs.Passes.{figureLimit, passes, withoutAll, gone, Held, Drawable, Drafts, Plans, eventsIn, budgetOf};
 use budget::Budget;
 use budget::budget_ok;
 use counted::Numbers;
@@ -195,7 +192,7 @@ fn plan_of(track: Track, n: u64, b: Budget, quarter: &[u32; 1025]) -> Plan
 
 // How many of the `count` events the first `m` windows take, each counted by itself.
 fn count_gone(events: &[i64], count: usize, windows: [Window; FIGURES], m: usize) -> usize
-    requires { ⌜ (count ≤ length (rowsOf (now events))) × (m ≤ 32) ⌝ }
+    requires { ⌜ (count ≤ length (rowsOf (now events))) × (m ≤ figureLimit) ⌝ }
     ensures { λ r. ⌜ r ≡ gone (take m windows) (eventsOf (now (events .entry)) count) ⌝ }
 {
     let mut n: usize = 0;
@@ -210,7 +207,7 @@ fn count_gone(events: &[i64], count: usize, windows: [Window; FIGURES], m: usize
 
 // Takes the first `m` windows out of the `count` events and answers how many are left.
 fn take_all(events: &mut [i64], count: usize, windows: [Window; FIGURES], m: usize) -> usize
-    requires { ⌜ (count ≤ length (rowsOf (now events))) × (m ≤ 32) ⌝ }
+    requires { ⌜ (count ≤ length (rowsOf (now events))) × (m ≤ figureLimit) ⌝ }
     ensures { λ r. ⌜ (r ≡ length (withoutAll (take m windows) (eventsOf (now (events .entry)) count)))
         × (rowsOf (now (events .exit)) ≡ putFirst zeroEvent count (withoutAll (take m windows) (eventsOf (now (events .entry)) count)) (rowsOf (now (events .entry)))) ⌝ }
 {

@@ -1,22 +1,18 @@
 -- What was added, and what the rest come to, is what all come to (`Putting`).
-use mathlib.Core.Path.{_≡_, refl, sym, ap, ap₂, _∙_}
-use mathlib.Core.Bool.{Bool, true, false, _&&_}
-use mathlib.Core.List.{List, _∷_, _++_}
+use mathlib.Core.Path.{_≡_, refl, ap, ap₂, _∙_}
+use mathlib.Core.List.{List}
 use Prim.Native.Nat.{ℕ, _+_, _-_, _≤_, _<_, _^_}
 use native.Mathlib.Omega.{arith}
 use borrow.Author.Tests.{ltb-true}
-use borrow.Author.Needs.{needs}
-use lib.ListN.{length, drop}
+use lib.ListN.{length}
 use Rattle.laws.proofs.Ranges.{left}
 use Rattle.budget.specs.declared.Budget.{Budget}
 use Rattle.events.specs.declared.Event.{Event}
 use Rattle.eventlist.specs.Rows.{rowsOf}
-use Rattle.eventlist.proofs.EventRows.{same-rows}
 use Rattle.offers.specs.Walks.{append}
 use Rattle.writing.specs.declared.Outcome.{Outcome}
 use Rattle.state.proofs.Stored.{waves-few, sines-few}
-use Rattle.waving.specs.Drawings.{Drawing, drawingsOf}
-use Rattle.waving.specs.Passes.{passes, newsOf}
+use Rattle.waving.specs.Drawings.{drawingsOf}
 use Rattle.waving.proofs.Places.{drawings-long, next-drawing}
 use Rattle.waving.proofs.Passing.{Putting, ended, put-begun, put-ended, put-room, put-further, drafts-news, drafts-budget}
 use Rattle.waving.proofs.add_all.Statement.{statement}

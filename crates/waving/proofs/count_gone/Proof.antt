@@ -1,14 +1,14 @@
 -- What the windows passed take and what the rest take is what all take.
 use mathlib.Core.List.{List}
-use mathlib.Core.Path.{_≡_, refl, sym, ap, _∙_}
-use Prim.Native.Nat.{_+_, _-_, _≤_, _<_}
+use mathlib.Core.Path.{_≡_}
+use Prim.Native.Nat.{_+_, _-_, _≤_}
 use native.Mathlib.Omega.{arith}
 use borrow.Author.Needs.{needs}
 use lib.ListN.{length, take, drop}
 use Rattle.laws.proofs.Reading.{length-told}
 use Rattle.events.specs.declared.Event.{Event}
 use Rattle.eventlist.specs.Rows.{rowsOf, eventsOf}
-use Rattle.eventlist.proofs.EventRows.{length-rowsOf, same-rows}
+use Rattle.eventlist.proofs.EventRows.{length-rowsOf}
 use lib.Seq.{length-take-le}
 use lib.ListN.{length-take}
 use Rattle.waving.specs.Passes.{gone}

@@ -1,4 +1,4 @@
-use mathlib.Core.Path.{_≡_, subst}
+use mathlib.Core.Path.{subst}
 use native.Mathlib.Omega.{arith}
 use Rattle.state.proofs.Stored.{waves-few, sines-few}
 use Rattle.waving.specs.Drawings.{Drawing}

@@ -1,22 +1,19 @@
 -- What was planned, and what the rest comes to, is what all come to (`Passing`); the windows are laid down one after the other.
 use mathlib.Core.Path.{_≡_, refl, sym, ap, _∙_}
-use mathlib.Core.Bool.{Bool, true, false, _&&_}
-use mathlib.Core.List.{List, _∷_, _++_, append-nil}
-use Prim.Native.Nat.{ℕ, _+_, _-_, _*_, _≤_, _<_, _^_}
+use mathlib.Core.List.{_++_, append-nil}
+use Prim.Native.Nat.{_+_, _-_, _*_, _≤_, _<_, _^_}
 use native.Mathlib.Omega.{arith}
 use borrow.Author.Needs.{needs}
 use borrow.Author.Tests.{ltb-true}
-use lib.Dec.{ltb, eqb}
 use lib.ListN.{length, take, drop, length-set}
 use Rattle.laws.proofs.Ranges.{left}
 use Rattle.budget.specs.declared.Budget.{Budget}
 use Rattle.counted.specs.Numbers.{shown}
-use Rattle.eventlist.specs.declared.Window.{Window}
 use Rattle.offers.specs.Waves.{triples}
 use Rattle.writing.proofs.Origins.{far}
 use Rattle.state.proofs.Stored.{waves-few, sines-few}
-use Rattle.waving.specs.Drawings.{Drawing, drawingsOf, drawingAt}
-use Rattle.waving.specs.Passes.{Passes, passes, Plans}
+use Rattle.waving.specs.Drawings.{drawingsOf}
+use Rattle.waving.specs.Passes.{Passes, passes}
 use Rattle.waving.proofs.Places.{drawings-long, next-drawing}
 use Rattle.waving.proofs.Passing.{Passing, begun, ended, further, window-further, stops, pass-used, drafts-budget, drafts-window}
 use Rattle.waving.proofs.plan_of.Statement.{statement}

@@ -1,17 +1,11 @@
 -- What is left of the events after the windows passed, and without the rest, is what no window takes.
-use mathlib.Core.Path.{_≡_, refl, sym, ap, _∙_}
-use Prim.Native.Nat.{_+_, _-_, _≤_, _<_}
+use mathlib.Core.Path.{_≡_, refl, _∙_}
+use Prim.Native.Nat.{_+_, _-_, _≤_}
 use native.Mathlib.Omega.{arith}
 use borrow.Author.Needs.{needs}
 use lib.ListN.{length, take, drop}
 use Rattle.laws.proofs.Reading.{length-told}
-use Rattle.laws.proofs.Compact.{length-without}
-use Rattle.eventlist.specs.Rows.{rowsOf, eventsOf}
-use Rattle.eventlist.specs.Windows.{takenBy}
-use Rattle.eventlist.proofs.EventRows.{length-rowsOf, same-rows}
-use lib.Seq.{length-take-le}
-use lib.ListN.{length-take}
-use Rattle.waving.specs.Passes.{withoutAll}
+use Rattle.eventlist.specs.Rows.{rowsOf}
 use Rattle.waving.proofs.Clearing.{Cleared, all-more, all-done, clear-begun, clear-further, clear-ended}
 use Rattle.waving.proofs.take_all.Statement.{statement}
 use Rattle.waving.proofs.take_all.Tie as tie

@@ -1,14 +1,14 @@
 -- The plan says what the windows take and what is added; with that the laws Room tell the refusal and what is left.
-use mathlib.Core.Path.{_≡_, sym, ap, _∙_}
+use mathlib.Core.Path.{_≡_, ap, _∙_}
 use mathlib.Core.List.{List}
-use Prim.Native.Nat.{ℕ, _+_, _-_, _/_, _≤_, _<_}
+use Prim.Native.Nat.{_+_, _-_, _≤_}
 use native.Mathlib.Omega.{arith}
 use lib.ListN.{length, take}
 use Rattle.laws.specs.Lists.{putFirst}
 use Rattle.events.specs.declared.Event.{Event}
 use Rattle.events.specs.Events.{zeroEvent}
 use Rattle.eventlist.specs.declared.Window.{Window}
-use Rattle.eventlist.specs.Rows.{rowsOf, eventsOf}
+use Rattle.eventlist.specs.Rows.{rowsOf}
 use Rattle.eventlist.proofs.EventRows.{length-rowsOf, same-rows}
 use Rattle.waving.specs.Drawings.{Drawing, drawingsOf}
 use Rattle.waving.specs.Passes.{passes, withoutAll, gone}
