@@ -1,5 +1,6 @@
 // The original and the port on the same lists, in one process. A line for each case: the medians of repeated runs, and ours by theirs. Before a case is timed both sides make the
 // call once, and the times and the kinds that they leave are compared. docs/PERFORMANCE.md says how the lists are made and what the figures were.
+// With `curves SEED COUNT` nothing is timed: the values of so many random curves at random steps are compared.
 
 #[path = "../target/bench/original.rs"]
 mod original;
@@ -24,6 +25,7 @@ extern "C" {
     fn bench_play_from(events: *mut i64, numbers: usize, count: usize, cut: i64, store: *const u8, bytes: usize) -> usize;
     fn bench_normalize(events: *mut i64, numbers: usize, count: usize, store: *const u8, bytes: usize) -> usize;
     fn bench_events_sort(events: *mut i64, numbers: usize, count: usize, store: *const u8, bytes: usize) -> usize;
+    fn bench_curve_value(low: i32, high: i32, j: u64, len: u64) -> i64;
 }
 
 /// Steps between two events of a list in order.
@@ -141,7 +143,57 @@ fn case(name: &str, events: &[Event], times: usize, theirs: impl Fn(&mut Track),
     println!("| {name} | {} | {original:.1} | {port:.1} | {:.2} |", events.len(), port / original);
 }
 
+/// Within plus or minus 2^bits: of any size, or at an end.
+fn reach(dice: &mut Dice, bits: u32) -> isize {
+    let limit = 1 << bits;
+    let size = 1 << dice.below(bits as usize + 1);
+    let far = dice.below(2 * size as usize + 1) as isize - size;
+    [far, far, far, far, limit, -limit, limit - 1, 1 - limit][dice.below(8)]
+}
+
+/// 0 to `most`: of any size, or at an end.
+fn up_to(dice: &mut Dice, most: isize) -> isize {
+    let size = 1 + (most as usize >> dice.below(21));
+    let some = dice.below(size) as isize;
+    let any = dice.below(most as usize + 1) as isize;
+    [some, any, any, most - some, most, most / 2, 0, most / 3][dice.below(8)]
+}
+
+/// Values of the port beside those of the original's own curves, as a note parameter reads them; answers whether all are equal.
+fn curves(seed: u64, count: u64) -> bool {
+    let mut dice = Dice(seed.wrapping_mul(0x9e37_79b9_7f4a_7c15) | 1);
+    let mut param = NoteParam::new();
+    let (mut equal, mut first) = (0, None);
+    for _ in 0..count {
+        let (low, high) = (reach(&mut dice, 22), reach(&mut dice, 22));
+        let len = up_to(&mut dice, (1 << 20) - 1) + 1;
+        let j = up_to(&mut dice, len - 1);
+        param.set_on_time(0, vec![low, high, len]);
+        let theirs = param.calc_on_time(j, isize::MAX) as i64;
+        let ours = unsafe { bench_curve_value(low as i32, high as i32, j as u64, len as u64) };
+        if theirs == ours {
+            equal += 1;
+        } else if first.is_none() {
+            first = Some((low, high, len, j, theirs, ours));
+        }
+    }
+    println!("curve values, seed {seed}: {equal} of {count} equal");
+    if let Some((low, high, len, j, theirs, ours)) = first {
+        println!("the first that differs: ({low}, {high}, {len}) at {j}: {theirs} in the original, {ours} in the port");
+    }
+    equal == count
+}
+
 fn main() {
+    let words: Vec<String> = std::env::args().skip(1).collect();
+    if let [mode, seed, count] = &words[..] {
+        assert!(mode == "curves", "no such mode: {mode}");
+        std::process::exit(i32::from(!curves(seed.parse().unwrap(), count.parse().unwrap())));
+    }
+    speeds();
+}
+
+fn speeds() {
     let (store, bytes) = (STORE.as_ptr(), STORE.len());
     println!("| call | events | the Rust, us | ours, us | ratio |\n|---|---|---|---|---|");
     for count in [1_000, 100_000] {

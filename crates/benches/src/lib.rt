@@ -1,5 +1,5 @@
-// The list calls under plain names, for bench/main.rs to link beside the original. Each answers the list's new count,
-// or the number of its refusal above every count.
+// Calls under plain names, for bench/main.rs to link beside the original: the list's, each of which answers the list's
+// new count, or the number of its refusal above every count; and the value of a curve.
 use cutting::full_cut;
 use cutting::play_from;
 use eventlist::Taken;
@@ -8,10 +8,19 @@ use eventlist::list_ok;
 use eventlist::remove_pitch_bend_in_range;
 use eventlist::take_out;
 use notes::normalize;
+use numbers::is_number;
+use shapes::curve_value;
 use sorting::events_sort;
+use values::widened;
 
 // Above every count.
 const REFUSED: usize = 4294967296;
+
+// Above every value.
+const NO_VALUE: i64 = 4294967296;
+
+// The longest curve.
+const LONGEST: u64 = 1048576;
 
 fn count_of(t: Taken) -> usize {
     if t.code != 0 {
@@ -84,4 +93,24 @@ pub extern "C" fn bench_events_sort(events: &mut [i64], count: usize, store: &[u
         return REFUSED;
     }
     count
+}
+
+// The value at step `j` of a curve of length `len`; above every value where a number is out of its range.
+#[no_mangle]
+pub extern "C" fn bench_curve_value(low: i32, high: i32, j: u64, len: u64) -> i64 {
+    if !is_number(low) {
+        return NO_VALUE;
+    }
+    if !is_number(high) {
+        return NO_VALUE;
+    }
+    if len <= j {
+        return NO_VALUE;
+    }
+    if LONGEST < len {
+        return NO_VALUE;
+    }
+    let a = widened(low);
+    let b = widened(high);
+    curve_value(a, b, j, len)
 }
