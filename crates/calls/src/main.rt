@@ -1,24 +1,16 @@
 // The port's side of the comparison with the Rust: reads a script of calls from standard input, carries each out on
-// its desk, and prints what the call answered and left, as docs/COMPARING.md says. One module holds one family of
-// calls; a call that is not there prints `op -1`.
+// its desk, and prints what the call answered and left, as docs/COMPARING.md says. The families of
+// calls stand in crates below it; a call that is not there prints `op -1`.
 ghost use mathlib.Core.Path.{_≡_};
 ghost use lib.ListN.{length};
-
-mod desk;
-mod family1;
-mod family2;
-mod family3;
-mod family4;
-mod family9;
-mod lists;
-mod poke;
-mod record;
-mod sections;
-
 use desk::Called;
 use desk::Desk;
 use desk::answered;
 use desk::new_desk;
+use partcalls::family1;
+use partcalls::family2;
+use partcalls::family3;
+use partcalls::family4;
 use script::answer::put_answer;
 use script::answer::unknown;
 use script::args::arg;
@@ -32,7 +24,10 @@ use script::reader::Place;
 use script::reader::family_of;
 use script::reader::first_place;
 use script::reader::read_call;
-use sections::show;
+use showing::show;
+use trackcalls::family5;
+use trackcalls::family6;
+use trackcalls::family8;
 
 // A script has at most so many calls.
 const MOST_CALLS: u64 = 100000000;
@@ -88,7 +83,10 @@ fn call(
         2 => family2::carry_out(op, args, desk),
         3 => family3::carry_out(op, args, desk, events, second, store),
         4 => family4::carry_out(op, args, desk),
-        9 => family9::carry_out(op, args, desk, events),
+        5 => family5::carry_out(op, args, desk),
+        6 => family6::carry_out(op, args, desk, events, store),
+        8 => family8::carry_out(op, args, desk),
+        9 => spoiling::carry_out(op, args, desk, events),
         _ => answered(unknown(), desk),
     }
 }

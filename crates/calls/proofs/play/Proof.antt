@@ -1,5 +1,7 @@
--- `play` is safe and ends: at most so many calls are left, and what is lent stays as long as it was.
-use mathlib.Core.Path.{_≡_, refl}
+-- `play` is safe and ends: at most so many calls are left, and what is lent stays as long as it was. The facts are
+-- taken from where they stand: a desk has more parts than a search looks through.
+use mathlib.Core.Path.{_≡_, _∙_, refl}
+use native.Mathlib.Omega.{arith}
 use lib.ListN.{length}
 use borrow.Author.Needs.{needs}
 use Rattle.calls.proofs.play.Statement.{statement}
@@ -24,16 +26,22 @@ sub-left : tie.Need-sub-left Inv-loop μ-loop
 sub-left c = search needs
 
 loop-less : tie.Need-loop-less Inv-loop μ-loop
-loop-less c = search needs
+loop-less c = c .before .before .before .before .before .before .before .before .before .before .before .before .before .before .before .loop-test .taken
 
 loop-again : tie.Need-loop-again Inv-loop μ-loop
-loop-again c = search needs
+loop-again c =
+    let t = c .before .before .before .before .before .before .before .before .before .turn .kept .1 in
+    let i = c .before .before .before .before .before .before .before .before .before .before .before .before .before .before .before .before .loop .inv in
+    (t .0 ∙ i .0, t .1 .0 ∙ i .1, t .1 .1 .0 ∙ i .2, t .1 .1 .1 .0 ∙ i .3, t .1 .1 .1 .1 .1 .0 ∙ i .4)
 
 loop-less-2 : tie.Need-loop-less-2 Inv-loop μ-loop
-loop-less-2 c = search needs
+loop-less-2 c = omega (arith, c .before .before .before .before .before .before .before .before .before .before .before .before .before .before .before .loop-test .taken)
 
 loop-again-2 : tie.Need-loop-again-2 Inv-loop μ-loop
-loop-again-2 c = search needs
+loop-again-2 c =
+    let t = c .before .before .before .before .before .before .before .before .before .turn .kept .1 in
+    let i = c .before .before .before .before .before .before .before .before .before .before .before .before .before .before .before .before .loop .inv in
+    (t .0 ∙ i .0, t .1 .0 ∙ i .1, t .1 .1 .0 ∙ i .2, t .1 .1 .1 .0 ∙ i .3, t .1 .1 .1 .1 .1 .0 ∙ i .4)
 
 flush-requires : tie.Need-flush-requires Inv-loop μ-loop
 flush-requires c κs = search needs

@@ -1,0 +1,118 @@
+// Family 5: the track's parameters at a note, and its velocity layers.
+use desk::Called;
+use desk::Desk;
+use desk::Tracked;
+use desk::left;
+use desk::lists::HANDED;
+use desk::lists::count_of;
+use desk::lists::fill;
+use desk::lists::widened;
+use desk::of_track;
+use desk::settled;
+use playing::TrackValue;
+use playing::TrackVelocity;
+use playing::apply_v_sub;
+use playing::calc_l_on_note;
+use playing::calc_l_on_time;
+use playing::calc_o_on_note;
+use playing::calc_o_on_time;
+use playing::calc_qlen_on_note;
+use playing::calc_qlen_on_time;
+use playing::calc_t_on_note;
+use playing::calc_t_on_time;
+use playing::calc_v_on_note;
+use playing::calc_v_on_time;
+use playing::set_v_sub;
+use playing::set_v_sub_on_cycle;
+use playing::set_v_sub_on_note;
+use playing::set_v_sub_on_time;
+use playing::set_v_sub_random;
+use script::answer::one;
+use script::answer::refusal;
+use script::answer::unknown;
+use script::args::arg;
+use script::args::as_i32;
+use script::args::as_usize;
+use state::Track;
+use state::TrackAnswer;
+
+// A note's value, and the track that is left.
+fn taken(r: TrackValue) -> Tracked {
+    let track = r.track;
+    if r.code != 0 {
+        return of_track(refusal(r.code), track);
+    }
+    of_track(one(widened(r.value)), track)
+}
+
+// The same of a velocity.
+fn summed(r: TrackVelocity) -> Tracked {
+    let track = r.track;
+    if r.code != 0 {
+        return of_track(refusal(r.code), track);
+    }
+    of_track(one(r.value), track)
+}
+
+fn on_time(op: i64, track: Track, def: i32) -> TrackValue {
+    match op {
+        501 => calc_v_on_time(track, def),
+        503 => calc_t_on_time(track, def),
+        505 => calc_qlen_on_time(track, def),
+        507 => calc_o_on_time(track, def),
+        _ => calc_l_on_time(track, def),
+    }
+}
+
+fn on_note(op: i64, track: Track, def: i32) -> TrackValue {
+    match op {
+        502 => calc_v_on_note(track, def),
+        504 => calc_t_on_note(track, def),
+        506 => calc_qlen_on_note(track, def),
+        508 => calc_o_on_note(track, def),
+        _ => calc_l_on_note(track, def),
+    }
+}
+
+// 513 to 515.
+fn reserved(op: i64, track: Track, layer: usize, values: &[i32]) -> TrackAnswer {
+    match op {
+        513 => set_v_sub_on_time(track, layer, values),
+        514 => set_v_sub_on_cycle(track, layer, values),
+        _ => set_v_sub_on_note(track, layer, values),
+    }
+}
+
+// The same with the first n numbers of the list.
+fn with_first(op: i64, track: Track, layer: usize, list: &[i32], n: usize) -> Tracked {
+    if n <= list.len() {
+        return left(reserved(op, track, layer, &list[..n]));
+    }
+    of_track(unknown(), track)
+}
+
+// The same with the arguments' list.
+fn listed(op: i64, args: &[i64], track: Track, layer: usize) -> Tracked {
+    let mut list: [i32; HANDED] = [0; HANDED];
+    fill(&mut list, args, 1);
+    with_first(op, track, layer, &list, count_of(args, 1))
+}
+
+fn on_track(op: i64, args: &[i64], track: Track) -> Tracked {
+    let a = arg(args, 0);
+    let x = as_i32(a);
+    let y = as_i32(arg(args, 1));
+    match op {
+        501 | 503 | 505 | 507 | 509 => taken(on_time(op, track, x)),
+        502 | 504 | 506 | 508 | 510 => taken(on_note(op, track, x)),
+        511 => left(set_v_sub(track, as_usize(a), y)),
+        512 => left(set_v_sub_random(track, as_usize(a), y)),
+        513..=515 => listed(op, args, track, as_usize(a)),
+        516 => summed(apply_v_sub(track, x)),
+        _ => of_track(unknown(), track),
+    }
+}
+
+pub fn carry_out(op: i64, args: &[i64], desk: Desk) -> Called {
+    settled(desk, on_track(op, args, desk.track))
+}
