@@ -1,0 +1,15 @@
+use Rattle.numbers.proofs.Tested.{read-back}
+use Rattle.reel.specs.Records.{isCount}
+use borrow.Author.Needs.{needs}
+use Rattle.reel.proofs.numerals.is_count.Statement.{statement}
+use Rattle.reel.proofs.numerals.is_count.Tie as tie
+
+within-i32-requires : tie.Need-within-i32-requires
+within-i32-requires c κs = search needs
+
+returns : tie.Need-returns
+unfolding isCount
+returns c = read-back isCount (c .before .fits .n) (c .within-i32 .ensures)
+
+pub is-count-spec : {M : Type 1} → statement M
+is-count-spec = tie.close (tie.spec within-i32-requires returns)
