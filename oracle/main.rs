@@ -5,6 +5,10 @@
 //     oracle text < script          one call a line; `oracle binary < text` goes back
 //     oracle cases                  document 01's cases that need only the original
 //     oracle sines SEED COUNT       document 01's sine values beside the original's
+//     oracle tape < tape            what document 01's tape program prints of a tape
+//     oracle tapes SEED COUNT > stream            tapes to compare with
+//     oracle plays < stream         what it prints of each of a stream's tapes; `oracle each PROGRAM.. < stream` runs another program on each,
+//                                   `oracle pick N < stream` writes one of them, counted from 0
 
 #[path = "../target/oracle/original.rs"]
 mod original;
@@ -24,6 +28,8 @@ mod sine;
 mod spoil;
 mod stand_ins;
 mod table;
+mod tape;
+mod tapes;
 
 use std::io::{stdin, stdout, BufWriter, Read, Result, Write};
 
@@ -57,8 +63,26 @@ fn main() -> Result<()> {
             out.flush()?;
             std::process::exit(i32::from(!near));
         }
+        ["tape"] => {
+            let mut bytes = vec![];
+            stdin().read_to_end(&mut bytes)?;
+            write!(out, "{}", tape::play(&bytes, &sine::Quarter::new()))?;
+        }
+        ["tapes", seed, count] => tapes::write(&tapes::tapes(number(seed), number(count) as usize), &mut out)?,
+        ["plays"] => {
+            let quarter = sine::Quarter::new();
+            for bytes in tapes::read(&mut stdin())? {
+                write!(out, "{}", tape::play(&bytes, &quarter))?;
+            }
+        }
+        ["pick", at] => out.write_all(&tapes::read(&mut stdin())?[number(at) as usize])?,
+        ["each", ref program @ ..] if !program.is_empty() => {
+            for printed in tapes::each(program, &tapes::read(&mut stdin())?) {
+                out.write_all(&printed)?;
+            }
+        }
         _ => {
-            eprintln!("oracle run | make SEED COUNT FAMILIES | text | binary | cases | sines SEED COUNT");
+            eprintln!("oracle run | make SEED COUNT FAMILIES | text | binary | cases | sines SEED COUNT | tape | tapes SEED COUNT | plays | each PROGRAM.. | pick N");
             std::process::exit(2);
         }
     }
