@@ -1,3 +1,4 @@
+-- `mark_of`: each arm is a case of the definition.
 use mathlib.Core.Path.{refl}
 use borrow.Author.Tests.{ne-eqb}
 use Rattle.reel.specs.Marks.{markOf}

@@ -1,3 +1,4 @@
+-- `count_of`: by the number's sign.
 use lib.IntN.{pos}
 use native.Mathlib.Omega.{arith}
 use mir.Facts.{toZ-ofZ}

@@ -1,3 +1,4 @@
+-- `fault_at`: the tests, in the definition's order; a mark whose turn it is has all its numbers.
 use mathlib.Core.Path.{_≡_, ap, _∙_}
 use mathlib.Core.Bool.{true}
 use Prim.Native.Nat.{ℕ, _+_, _*_, _≤_, _<_}

@@ -1,3 +1,4 @@
+-- `list_fault`: the tests, in the definition's order.
 use mathlib.Core.Path.{_≡_, ap, _∙_}
 use Prim.Native.Nat.{_≤_}
 use native.Mathlib.Omega.{arith}

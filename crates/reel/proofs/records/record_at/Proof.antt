@@ -1,3 +1,4 @@
+-- `record_at`: a record that is not refused is there whole (`fault-none`).
 use mathlib.Core.Path.{sym, _∙_}
 use native.Mathlib.Omega.{arith}
 use denote.Ref.{now}
