@@ -8,7 +8,8 @@
 //     oracle tape < tape            what document 01's tape program prints of a tape
 //     oracle tapes SEED COUNT > stream            tapes to compare with
 //     oracle plays < stream         what it prints of each of a stream's tapes; `oracle each PROGRAM.. < stream` runs another program on each,
-//                                   `oracle pick N < stream` writes one of them, counted from 0
+//                                   `oracle pick N < stream` writes one of them, counted from 0,
+//                                   `oracle thin N < stream` every N-th of them that is short
 
 #[path = "../target/oracle/original.rs"]
 mod original;
@@ -75,6 +76,11 @@ fn main() -> Result<()> {
                 write!(out, "{}", tape::play(&bytes, &quarter))?;
             }
         }
+        ["thin", step] => {
+            let tapes = tapes::read(&mut stdin())?;
+            let short: Vec<Vec<u8>> = tapes.into_iter().step_by(number(step) as usize).filter(|tape| tape.len() <= 512).collect();
+            tapes::write(&short, &mut out)?;
+        }
         ["pick", at] => out.write_all(&tapes::read(&mut stdin())?[number(at) as usize])?,
         ["each", ref program @ ..] if !program.is_empty() => {
             for printed in tapes::each(program, &tapes::read(&mut stdin())?) {
@@ -82,7 +88,7 @@ fn main() -> Result<()> {
             }
         }
         _ => {
-            eprintln!("oracle run | make SEED COUNT FAMILIES | text | binary | cases | sines SEED COUNT | tape | tapes SEED COUNT | plays | each PROGRAM.. | pick N");
+            eprintln!("oracle run | make SEED COUNT FAMILIES | text | binary | cases | sines SEED COUNT | tape | tapes SEED COUNT | plays | each PROGRAM.. | pick N | thin N");
             std::process::exit(2);
         }
     }
