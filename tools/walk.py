@@ -48,7 +48,7 @@ class Fn:
     """A function's parameters as (name, kind, type), its result, and its contract's text."""
     def __init__(self, crate, name):
         self.crate, self.name, self.dash = crate, name, name.replace('_', '-')
-        m = re.search(r'fn %s(?:<[^>]*>)?\((.*?)\)(?: -> (\w+))?\s*\n(.*?)\n\{' % name, source(crate), re.S)
+        m = re.search(r'fn %s(?:<[^>]*>)?\((.*?)\)(?: -> (\w+|\[\w+; \w+\]))?\s*\n(.*?)\n\{' % name, source(crate), re.S)
         self.result, self.params = m.group(2), []
         for p in split_commas(m.group(1)):
             n, t = [x.strip().removeprefix('mut ') for x in p.split(':')]
@@ -112,6 +112,7 @@ class Type:
             self.row, self.vals = f'(Array {of.row} {size})', f'array-vals ({of.vals})'
             self.tells = f'array-tells {of.row} ({of.vals}) ({of.tells}) {size}'
             self.makes, self.lawful = f'(array-makes 𝓤 H A W {of.row} {of.makes} {size})', f'array-lawful 𝓤 H A W {of.row} ({of.lawful}) {size}'
+            self.mir = f'(tyArray {of.mir} {size})' if of.struct else None
             self.denot, self.plain = f'(List {of.denot})', f'(ArrayOf (plain (λ _. {of.row})) (λ _. tt) {size})'
             return
         if name == 'unit':
@@ -688,7 +689,7 @@ def lands(w, out, c, d, put):
     w.bind(f'peeks ! {out.spells()} r{c} (w{c} ∷ []) (λ is{c}.')
     unseen = out.name in OPAQUE
     w.say(f'land ! (from ! (stop !)) {put(d, f"({out.name}-typed r{c} w{c} is{c})" if unseen else out.typed(f"r{c}", f"is{c}"))} $')
-    if out.struct and not unseen:
+    if (out.struct or out.of) and not unseen:
         w.rewrite(f'_{d}', f'(λ (v : Val). ‵ (fat fullShare {out.mir} {loc(d)} 0 v))', f'(ap only ({out.tells} r{c} _ is{c}))')
     w.drop('has')
 
