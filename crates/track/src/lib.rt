@@ -5,6 +5,8 @@ ghost use mathlib.Core.Path.{_≡_};
 ghost use lib.ListN.{length};
 ghost use Rattle.track.specs.Reading.{ccOfTrack};
 
+pub mod lent;
+
 // ---- the track, its own numbers, its parameters and layers
 pub use playing::L;
 pub use playing::O;
