@@ -14,13 +14,14 @@ A straight line may hold: calls with no `requires`; `*r` of a `&mut` parameter r
 A loop is `let mut s = state; let mut i = 0; while i < t.len() { let r = f(.., t[i], .., s); t[i] = r.A; s = r.B; i += 1; } s`,
 where f may be lent one slice of numbers besides (crate lending, proofs/Turns, has its invariant).
 By value a parameter may be a number, a struct, or an array of structs; a result may be missing. A struct of OPAQUE is only handed
-on: the walk has its type and its machine value as variables, and the function's text with the other types by name, since the
-track's type, written out in each step, is more than the prover takes in one declaration.
+on, be it a parameter or what a call gave, and no field of it is read (a covered function takes it apart): the walk has its type
+and its machine value as variables, and the function's text with the other types by name, since the track's type, written out in
+each step, is more than the prover takes in one declaration.
 Parameters must not be called x, at, f, t, w, C, A, H or W. `rattle fmt --write` lays the file out.
 """
 import os, re, subprocess, sys
 
-# Structs so large that a walk must not see into them: their type and machine value are variables of the walk.
+# Structs so large that a walk must not see into them, since they hold a track: their type and machine value are variables of the walk.
 OPAQUE = {'Track', 'TrackAnswer', 'NoteAnswer', 'Noted', 'Kept'}
 SUB = str.maketrans('0123456789', '₀₁₂₃₄₅₆₇₈₉')
 WIDTH = {'u8': 'w8', 'u16': 'w16', 'u32': 'w32', 'u64': 'w64', 'usize': 'w64', 'i32': 'w32', 'i64': 'w64'}

@@ -22,7 +22,7 @@ pub record Written (o : Outcome) (l : List ℤ) (r : Answer) (b : Budget) (m : L
   pub spent : b ≡ o .budget
   pub left : m ≡ l
 
--- ---- a table that is lent
+-- ---- "the on-cycle table is lent by the caller as sixteen records"
 -- the number and the track that are handed back of what a setter leaves
 abbrev pub kept : Kept → TrackAnswer
 kept k = record { code = k .code; track = k .track }
