@@ -4,13 +4,11 @@ use crate::lending::handed;
 use crate::lending::numbers_in;
 use crate::record::event_of;
 use crate::record::numbers_of;
-use cutting::current_cc_value;
 use cutting::full_cut;
 use cutting::play_from;
 use desk::Called;
 use desk::Desk;
 use desk::answered;
-use desk::lists::widened;
 use desk::with_count;
 use desk::with_split;
 use eventlist::Taken;
@@ -40,7 +38,7 @@ use script::args::as_i32;
 use script::args::as_usize;
 use sorting::events_sort;
 use state::Track;
-use state::track_ok;
+use track::current_cc_value;
 
 // What a call on the list answers, how many records are in use after it, and how many stand in the second slice.
 struct Listed {
@@ -135,13 +133,9 @@ fn remove(own: usize, count: usize, w: Window, events: &mut [i64], store: &[u8])
 
 // 305.
 fn value(track: Track, count: usize, number: i64, events: &[i64], store: &[u8]) -> Answer {
-    let channel = widened(track.channel);
-    let v = current_cc_value(channel, track.timepos, number, events, count, store);
+    let v = current_cc_value(track, as_i32(number), events, count, store);
     if v.code != 0 {
         return refusal(v.code);
-    }
-    if !track_ok(track) {
-        return refusal(4);
     }
     one(v.value)
 }

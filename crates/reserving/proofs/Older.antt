@@ -31,7 +31,8 @@ use Rattle.state.specs.Tests.{okTrack, okLent}
 use Rattle.state.specs.Calls.{answer, answered}
 use Rattle.state.proofs.Parts.{track-cycles}
 use Rattle.state.proofs.Stored.{stored-lone, stored-notes, stored-waves, stored-sines}
-use Rattle.reserving.specs.Old.{controllerTarget, aloneRefusal, removeCcOnNote, removeCcOnNoteWave}
+use Rattle.drawing.specs.Calls.{ccTarget}
+use Rattle.reserving.specs.Old.{aloneRefusal, removeCcOnNote, removeCcOnNoteWave}
 use Rattle.reserving.proofs.Lent.{lent-track, lent-cycles, lent-lone}
 use Rattle.reserving.proofs.Keeping.{notes-ok, waves-ok, sines-ok, track-kept, with-tables}
 
@@ -118,10 +119,10 @@ left-alone n a b h = go (eqb n 0) h
 
 module _ (a : Track) (number : ℤ) where
   abbrev asked : ℕ
-  asked = aloneRefusal a (controllerTarget number)
+  asked = aloneRefusal a (ccTarget number)
 
   abbrev k : ℕ
-  k = key (controllerTarget number)
+  k = key (ccTarget number)
 
   pub cc-note-refused : (removeCcOnNote a number .code ≡ 0 → ⊥) → removeCcOnNote a number ≡ answer (removeCcOnNote a number .code) a
   unfolding removeCcOnNote

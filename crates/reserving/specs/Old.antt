@@ -3,9 +3,8 @@
 use mathlib.Core.Bool.{cond}
 use mathlib.Core.List.{List}
 use Prim.Native.Nat.{ℕ}
-use lib.IntN.{ℤ, pos, negsuc}
-use Rattle.laws.specs.Integers.{eqZ}
-use Rattle.numbers.specs.Ranges.{isController, isTarget}
+use lib.IntN.{ℤ, pos}
+use Rattle.numbers.specs.Ranges.{isTarget}
 use Rattle.reserved.specs.Setting.{demand}
 use Rattle.cycles.specs.declared.Cycle.{Cycle}
 use Rattle.cycles.specs.Due.{key}
@@ -15,31 +14,24 @@ use Rattle.state.specs.declared.TrackAnswer.{TrackAnswer}
 use Rattle.state.specs.Track.{withTables}
 use Rattle.state.specs.Tests.{okTrack}
 use Rattle.state.specs.Calls.{answered}
+use Rattle.drawing.specs.Calls.{ccTarget, pbTarget}
 use Rattle.reserving.specs.declared.Kept.{Kept}
 use Rattle.reserving.specs.Setting.{removeReserve, setOnNote, setOnNoteWave}
-
--- a controller's number as a target, and none where it is not one
-unfoldable pub controllerTarget : ℤ → ℤ
-controllerTarget number = cond (isController number) number (negsuc 0)
-
--- the bend of argument 0 is 128, of any other 129
-unfoldable pub bendTarget : ℤ → ℤ
-bendTarget big = cond (eqZ big (pos 0)) (pos 128) (pos 129)
 
 abbrev pub normal : ℕ
 normal = 0
 
 abbrev pub removeCcOn : Track → ℕ → List Cycle → ℤ → Kept
-removeCcOn a size cs number = removeReserve a size cs (controllerTarget number)
+removeCcOn a size cs number = removeReserve a size cs (ccTarget number)
 
 abbrev pub setCcOnNote : Track → ℕ → List Cycle → ℤ → List ℤ → Kept
-setCcOnNote a size cs number v = setOnNote a size cs (controllerTarget number) v
+setCcOnNote a size cs number v = setOnNote a size cs (ccTarget number) v
 
 abbrev pub setCcOnNoteWave : Track → ℕ → List Cycle → ℤ → List ℤ → Kept
-setCcOnNoteWave a size cs number v = setOnNoteWave a size cs (controllerTarget number) normal v
+setCcOnNoteWave a size cs number v = setOnNoteWave a size cs (ccTarget number) normal v
 
 abbrev pub setPbOnNoteWave : Track → ℕ → List Cycle → ℤ → List ℤ → Kept
-setPbOnNoteWave a size cs big v = setOnNoteWave a size cs (bendTarget big) normal v
+setPbOnNoteWave a size cs big v = setOnNoteWave a size cs (pbTarget big) normal v
 
 -- both bends are one target
 abbrev pub removePbOnNoteWave : Track → ℕ → List Cycle → Kept
@@ -52,12 +44,12 @@ aloneRefusal a target = cond (isTarget target) (demand (okTrack a)) 2
 -- its lists for notes alone
 unfoldable pub removeCcOnNote : Track → ℤ → TrackAnswer
 removeCcOnNote a number =
-    let target = controllerTarget number in
+    let target = ccTarget number in
     answered (aloneRefusal a target) a (withTables a (notesWithout (a .notes) (key target)) (a .waves) (a .sines) (a .cycles))
 
 -- its waves and sines alone
 unfoldable pub removeCcOnNoteWave : Track → ℤ → TrackAnswer
 removeCcOnNoteWave a number =
-    let target = controllerTarget number in
+    let target = ccTarget number in
     answered (aloneRefusal a target) a
     (withTables a (a .notes) (wavesWithout (a .waves) (key target)) (sinesWithout (a .sines) (key target)) (a .cycles))

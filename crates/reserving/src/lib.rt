@@ -6,12 +6,14 @@ ghost use mathlib.Core.Bool.{true};
 ghost use Rattle.state.specs.Tests.{okLent};
 ghost use Rattle.reserving.specs.Clearing.{refusal, cleared, freed, placed};
 ghost use Rattle.reserving.specs.Setting.{repeatOf, noteRoom, waveRoom, sineRoom, cycleRoom, withNote, withWave, withSine, withCycle, removeReserve, setOnNote, setOnNoteWave, setOnNoteSine, setOnCycle};
-ghost use Rattle.reserving.specs.Old.{controllerTarget, bendTarget, removeCcOn, setCcOnNote, setCcOnNoteWave, setPbOnNoteWave, removePbOnNoteWave, aloneRefusal, removeCcOnNote, removeCcOnNoteWave};
+ghost use Rattle.reserving.specs.Old.{removeCcOn, setCcOnNote, setCcOnNoteWave, setPbOnNoteWave, removePbOnNoteWave, aloneRefusal, removeCcOnNote, removeCcOnNoteWave};
 use counted::numbers_of;
 use counted::numbers_ok;
 use cycles::Cycle;
 use cycles::PLACES;
 use cycles::key_of;
+use drawing::cc_target;
+use drawing::pb_target;
 use numbers::is_length;
 use numbers::is_target;
 use state::Track;
@@ -322,31 +324,11 @@ pub fn set_on_cycle(
     put_in_cycles(track, cycles, free, e)
 }
 
-// A controller's number as a target; -1, which is none, for any other.
-fn controller(number: i32) -> i32
-    ensures { λ r. ⌜ r ≡ controllerTarget number ⌝ }
-{
-    match number {
-        0..=127 => number,
-        _ => -1,
-    }
-}
-
-// The target of a bend by its argument.
-fn bend(big: i32) -> i32
-    ensures { λ r. ⌜ r ≡ bendTarget big ⌝ }
-{
-    match big {
-        0 => 128,
-        _ => 129,
-    }
-}
-
 // The older calls. `remove_reserve` of a controller. Refuses 1, 2, 4.
 pub fn remove_cc_on(track: Track, size: usize, cycles: [Cycle; PLACES], number: i32) -> Kept
     ensures { λ r. ⌜ r ≡ removeCcOn track size cycles number ⌝ }
 {
-    let target = controller(number);
+    let target = cc_target(number);
     remove_reserve(track, size, cycles, target)
 }
 
@@ -360,7 +342,7 @@ pub fn set_cc_on_note(
 ) -> Kept
     ensures { λ r. ⌜ r ≡ setCcOnNote track size cycles number (now (list .entry)) ⌝ }
 {
-    let target = controller(number);
+    let target = cc_target(number);
     set_on_note(track, size, cycles, target, list)
 }
 
@@ -374,7 +356,7 @@ pub fn set_cc_on_note_wave(
 ) -> Kept
     ensures { λ r. ⌜ r ≡ setCcOnNoteWave track size cycles number (now (list .entry)) ⌝ }
 {
-    let target = controller(number);
+    let target = cc_target(number);
     set_on_note_wave(track, size, cycles, target, NORMAL, list)
 }
 
@@ -388,7 +370,7 @@ pub fn set_pb_on_note_wave(
 ) -> Kept
     ensures { λ r. ⌜ r ≡ setPbOnNoteWave track size cycles big (now (list .entry)) ⌝ }
 {
-    let target = bend(big);
+    let target = pb_target(big);
     set_on_note_wave(track, size, cycles, target, NORMAL, list)
 }
 
@@ -416,7 +398,7 @@ fn asked_alone(track: Track, target: i32) -> u32
 pub fn remove_cc_on_note(mut track: Track, number: i32) -> TrackAnswer
     ensures { λ r. ⌜ r ≡ removeCcOnNote track number ⌝ }
 {
-    let target = controller(number);
+    let target = cc_target(number);
     let code = asked_alone(track, target);
     if code != 0 {
         return TrackAnswer {
@@ -436,7 +418,7 @@ pub fn remove_cc_on_note(mut track: Track, number: i32) -> TrackAnswer
 pub fn remove_cc_on_note_wave(mut track: Track, number: i32) -> TrackAnswer
     ensures { λ r. ⌜ r ≡ removeCcOnNoteWave track number ⌝ }
 {
-    let target = controller(number);
+    let target = cc_target(number);
     let code = asked_alone(track, target);
     if code != 0 {
         return TrackAnswer {

@@ -1,6 +1,7 @@
 // Family 6: options of a target, the types of sines, one value, curves and sines. What the Rust keeps private (606) tests
 // here what a call of the port tests.
 use budget::Budget;
+use budget::budget_ok;
 use desk::Called;
 use desk::Desk;
 use desk::Tracked;
@@ -97,12 +98,12 @@ fn on_track(op: i64, args: &[i64], track: Track) -> Tracked {
     }
 }
 
-// What a call that draws leaves of a list of `own` records.
-fn drawn(own: usize, budget: Budget, r: Outcome) -> Written {
-    if r.code != 0 {
-        return of_write(refusal(r.code), own, budget);
-    }
+// What a call that draws leaves of a list of `own` records. The budget is the one that the call hands back, refused or not.
+fn drawn(own: usize, r: Outcome) -> Written {
     let after = r.budget;
+    if r.code != 0 {
+        return of_write(refusal(r.code), own, after);
+    }
     of_write(done(), r.count, after)
 }
 
@@ -166,7 +167,16 @@ fn push_value(
     let target = as_i32(arg(args, 0));
     let time = arg(args, 1);
     let x = as_i32(arg(args, 2));
+    if !list_ok(events, count) {
+        return of_write(refusal(1), own, budget);
+    }
     let o = get_write_opt(track, target);
+    if o.code != 0 {
+        return of_write(refusal(o.code), own, budget);
+    }
+    if !budget_ok(budget) {
+        return of_write(refusal(4), own, budget);
+    }
     let option = o.option;
     value(
         target,
@@ -215,7 +225,6 @@ fn with_first(
     if n <= list.len() {
         return drawn(
             own,
-            budget,
             curve(op, track, target, &list[..n], budget, events, count, store),
         );
     }
@@ -295,7 +304,7 @@ fn on_list(
     match op {
         606 => push_value(args, track, budget, own, events, count),
         607 | 609 | 610 => listed(op, args, track, budget, own, events, count, store),
-        608 => drawn(own, budget, sine(args, track, budget, events, count, store)),
+        608 => drawn(own, sine(args, track, budget, events, count, store)),
         _ => of_write(unknown(), own, budget),
     }
 }

@@ -9,20 +9,21 @@ use Rattle.tables.specs.Tables.{notesWithout}
 use Rattle.state.specs.Track.{withTables}
 use Rattle.state.specs.Calls.{answer}
 use Rattle.state.proofs.Stored.{notes-few}
-use Rattle.reserving.specs.Old.{controllerTarget, aloneRefusal, removeCcOnNote}
+use Rattle.drawing.specs.Calls.{ccTarget}
+use Rattle.reserving.specs.Old.{aloneRefusal, removeCcOnNote}
 use Rattle.reserving.proofs.Alone.{refused, done, usable}
 use Rattle.reserving.proofs.Handing.{handed}
 use Rattle.reserving.proofs.remove_cc_on_note.Statement.{statement}
 use Rattle.reserving.proofs.remove_cc_on_note.Tie as tie
 
-aimed : (c : tie.After-controller) → toZ w32 (ofZ w32 (c .controller .result)) ≡ controllerTarget (c .before .args .number)
-aimed c = handed w32 controllerTarget (c .controller .ok) (c .before .fits .number) (c .controller .ensures)
+aimed : (c : tie.After-cc-target) → toZ w32 (ofZ w32 (c .cc-target .result)) ≡ ccTarget (c .before .args .number)
+aimed c = handed w32 ccTarget (c .cc-target .ok) (c .before .fits .number) (c .cc-target .ensures)
 
-code-is : (c : tie.After-asked-alone) → c .asked-alone .result ≡ aloneRefusal (c .before .before .args .track) (controllerTarget (c .before .before .args .number))
+code-is : (c : tie.After-asked-alone) → c .asked-alone .result ≡ aloneRefusal (c .before .before .args .track) (ccTarget (c .before .before .args .number))
 code-is c = c .asked-alone .ensures ∙ ap (aloneRefusal (c .before .before .args .track)) (aimed (c .before))
 
-controller-requires : tie.Need-controller-requires
-controller-requires c κs = search needs
+cc-target-requires : tie.Need-cc-target-requires
+cc-target-requires c κs = search needs
 
 asked-alone-requires : tie.Need-asked-alone-requires
 asked-alone-requires c κs = search needs
@@ -53,7 +54,7 @@ pub remove-cc-on-note-spec : {M : Type 1} → statement M
 remove-cc-on-note-spec =
     tie.close
     (tie.spec
-    controller-requires
+    cc-target-requires
     asked-alone-requires
     returns
     key-of-requires
