@@ -81,6 +81,7 @@ fn value_in(events: &[i64], count: usize, a: Asked) -> i64
 }
 
 // What `current_cc_value` answers: its number, and the value.
+#[repr(C)]
 pub struct CcValue {
     pub code: u32,
     pub value: i64,

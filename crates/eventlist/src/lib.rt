@@ -193,6 +193,7 @@ pub fn take_out(events: &mut [i64], count: usize, w: Window) -> usize
 }
 
 // What a call that takes events out answers: its number, and the count of the list afterwards.
+#[repr(C)]
 pub struct Taken {
     pub code: u32,
     pub count: usize,

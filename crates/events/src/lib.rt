@@ -32,6 +32,7 @@ pub const SYS_EX: i64 = 7;
 
 pub const DIRECT_SMF: i64 = 8;
 
+#[repr(C)]
 pub struct Event {
     pub kind: i64,
     pub time: i64,
@@ -44,12 +45,14 @@ pub struct Event {
 }
 
 // What a constructor answers: 0 and the event, or the refusal's number and the event of zeros.
+#[repr(C)]
 pub struct Made {
     pub code: u32,
     pub event: Event,
 }
 
 // An event's size: 0 and the bytes, or 4 and none.
+#[repr(C)]
 pub struct Size {
     pub code: u32,
     pub bytes: usize,

@@ -47,6 +47,7 @@ pub struct Written {
 }
 
 // What a write answers: 0, or 7 where the list has no room; the count of events and the budget after it.
+#[repr(C)]
 pub struct Outcome {
     pub code: u32,
     pub count: usize,
