@@ -10,6 +10,7 @@ ghost use Rattle.state.specs.Track.{noNotes, noWaves, noSines, noCycles,
 ghost use Rattle.state.specs.Tests.{okPlay, okParams, okOptions, okTables, okTrack, okLent};
 ghost use Rattle.state.specs.Calls.{onChannel, newOf, setTimepos, setChannel, setCcFreq, setPbFreq};
 use cycles::Cycle;
+pub use cycles::OPTIONS;
 use cycles::PLACES;
 use layers::Layers;
 use layers::layers_ok;
@@ -35,9 +36,6 @@ use tables::sines_ok;
 use tables::waves_ok;
 use values::WriteOption;
 use values::option_ok;
-
-// The controllers' options, and behind them the one that both bends share.
-pub const OPTIONS: usize = 129;
 
 // `ccfreq` and `pbfreq` are the Rust's `cc_on_time_freq` and `pb_on_time_freq`, `step` its `qlen_is_step`, 0 or 1; v, q, t, o, l are the note
 // parameters of velocity, gate, timing, octave and length. `cycles` counts the records of the lent cycle table.
