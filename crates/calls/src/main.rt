@@ -25,6 +25,7 @@ use script::reader::family_of;
 use script::reader::first_place;
 use script::reader::read_call;
 use showing::show;
+use targetcalls::family7;
 use trackcalls::family5;
 use trackcalls::family6;
 use trackcalls::family8;
@@ -45,11 +46,11 @@ fn no_words() -> [i64; 4096]
     [0; 4096]
 }
 
-// 4,096 records of eight numbers, and seven more.
-fn no_events() -> [i64; 32775]
-    ensures { λ r. ⌜ 32775 ≡ length r ⌝ }
+// 10,240 records of eight numbers, and seven more.
+fn no_events() -> [i64; 81927]
+    ensures { λ r. ⌜ 81927 ≡ length r ⌝ }
 {
-    [0; 32775]
+    [0; 81927]
 }
 
 fn no_bytes() -> [u8; 256]
@@ -85,6 +86,7 @@ fn call(
         4 => family4::carry_out(op, args, desk),
         5 => family5::carry_out(op, args, desk),
         6 => family6::carry_out(op, args, desk, events, store),
+        7 => family7::carry_out(op, args, desk, events, store),
         8 => family8::carry_out(op, args, desk),
         9 => spoiling::carry_out(op, args, desk, events),
         _ => answered(unknown(), desk),

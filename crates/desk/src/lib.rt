@@ -14,8 +14,8 @@ use state::Track;
 use state::TrackAnswer;
 use state::no_cycles;
 
-// The most records that a list has.
-pub const MOST_RECORDS: usize = 4096;
+// The most records that a list has: room for the 10,000 writes of one cycle call, and some more.
+pub const MOST_RECORDS: usize = 10240;
 
 // `named` is the parameter that a call of family 4 named. `room` records are lent and `count` are in use. `extra` and
 // `odd` say how the list is lent wrongly: a count of room + extra, and so many numbers more than whole records. `split`
