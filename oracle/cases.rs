@@ -26,7 +26,7 @@ fn ones(count: usize) -> String {
 }
 
 fn cases() -> Vec<Case> {
-    let sixteen: String = (0..16).map(|target| format!("703 {target} 1 5; ")).collect();
+    let sixteen: String = (0..16).map(|target| format!("703 {target} 16 1 5; ")).collect();
     let two = "904 2 0 0 7 90 0 0 0; 904 2 10 0 7 100 0 0 0";
     vec![
         case("Seed 1 steps to 270369; value 64, random 10 gives 68", "202 1 64 10", &["202 0 68 270369"]),
@@ -51,12 +51,12 @@ fn cases() -> Vec<Case> {
         ),
         case(
             "Expand lengths 3,3,4 to 7: 2,2,3",
-            "804 1; 603 7 1; 704 7 1 9 10 10 3 20 20 3 30 30 4; 802 7; 708 0",
+            "804 1; 603 7 1; 704 7 1 16 9 10 10 3 20 20 3 30 30 4; 802 7; 708 0",
             &["708 0", "E 7 2 0 0 7 10 0 0 2 1 0 7 10 0 0 2 2 0 7 20 0 0 2 3 0 7 20 0 0 2 4 0 7 30 0 0 2 5 0 7 30 0 0 2 6 0 7 30 0 0"],
         ),
         case(
             "Lengths 8,0 to 15: 15,0",
-            "804 7; 603 7 1; 704 7 1 6 10 10 8 20 20 0; 802 15; 708 0",
+            "804 7; 603 7 1; 704 7 1 16 6 10 10 8 20 20 0; 802 15; 708 0",
             &["708 0", "E 3 2 0 0 7 10 0 0 2 7 0 7 10 0 0 2 14 0 7 10 0 0"],
         ),
         case(
@@ -73,8 +73,8 @@ fn cases() -> Vec<Case> {
         case("Full cut: 90, 100", &format!("{two}; 310 10"), &["E 2 2 0 0 7 90 0 0 2 0 0 7 100 0 0"]),
         case("96 numbers accepted", &format!("607 7 {}", ones(96)), &["607 0"]),
         case("97 give 3", &format!("607 7 {}", ones(97)), &["607 3"]),
-        case("Sixteen targets kept, a seventeenth gives 6", &format!("{sixteen}703 16 1 5"), &["703 6"]),
-        case("A kept one set again gives 0", &format!("{sixteen}703 3 1 5"), &["703 0"]),
+        case("Sixteen targets kept, a seventeenth gives 6", &format!("{sixteen}703 16 16 1 5"), &["703 6"]),
+        case("A kept one set again gives 0", &format!("{sixteen}703 3 16 1 5"), &["703 0"]),
         case(
             "The tape's example: a curve and a cycle",
             "607 7 3 0 100 12; 706 11 24 16 3 10 20 30; 709 30 16",

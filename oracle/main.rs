@@ -2,6 +2,7 @@
 //
 //     oracle run < script           a line, or lines, after each call
 //     oracle make SEED COUNT FAMILIES > script
+//     oracle limits SEED FAMILIES > script        every call of the families at its limits
 //     oracle text < script          one call a line; `oracle binary < text` goes back
 //     oracle cases                  document 01's cases that need only the original
 //     oracle sines SEED COUNT       document 01's sine values beside the original's
@@ -19,6 +20,7 @@ mod cases;
 mod cut;
 mod desk;
 mod dice;
+mod limits;
 mod make;
 mod poke;
 mod private;
@@ -44,6 +46,7 @@ fn main() -> Result<()> {
             let steps = make::script(number(seed), number(count) as usize, &make::families(families));
             script::write(&steps, &mut out)?;
         }
+        ["limits", seed, families] => script::write(&limits::script(number(seed), &make::families(families)), &mut out)?,
         ["text"] => {
             for step in script::read(&mut stdin())? {
                 writeln!(out, "{}", step.text())?;
@@ -88,7 +91,7 @@ fn main() -> Result<()> {
             }
         }
         _ => {
-            eprintln!("oracle run | make SEED COUNT FAMILIES | text | binary | cases | sines SEED COUNT | tape | tapes SEED COUNT | plays | each PROGRAM.. | pick N | thin N");
+            eprintln!("oracle run | make SEED COUNT FAMILIES | limits SEED FAMILIES | text | binary | cases | sines SEED COUNT | tape | tapes SEED COUNT | plays | each PROGRAM.. | pick N | thin N");
             std::process::exit(2);
         }
     }

@@ -8,8 +8,14 @@ use crate::script::Step;
 use crate::sine::Quarter;
 use crate::table::{Arg, Call, CALLS};
 
+/// The records of a long list of family 3.
+const MANY_RECORDS: i64 = 4096;
+
 /// The most records that a list has.
-const MOST_RECORDS: i64 = 4096;
+const MOST_RECORDS: i64 = 10_240;
+
+/// The most writes that one cycle call makes.
+const CYCLE_WRITES: i64 = 10_000;
 
 pub struct Maker {
     pub dice: Dice,
@@ -30,8 +36,7 @@ pub fn families(text: &str) -> Vec<i64> {
 }
 
 pub fn script(seed: u64, count: usize, families: &[i64]) -> Vec<Step> {
-    let (dice, desk, quarter) = (Dice::new(seed), Desk::first(), Quarter::new());
-    let mut maker = Maker { dice, desk, quarter, families: families.to_vec(), steps: vec![], focus: None };
+    let mut maker = Maker::new(seed, families);
     maker.new_desk();
     while maker.steps.len() < count {
         match maker.dice.pick(0, 99) {
@@ -42,6 +47,7 @@ pub fn script(seed: u64, count: usize, families: &[i64]) -> Vec<Step> {
             18..=20 => maker.other_numbers(),
             21 if maker.has(&[7]) && maker.dice.one_in(4) => maker.fill(),
             22 if maker.has(&[6]) && maker.has(&[7]) && maker.dice.one_in(30) => maker.plenty(),
+            23 if maker.has(&[7]) && maker.dice.one_in(8) => maker.many_writes(),
             _ => maker.any_call(|_| true),
         }
     }
@@ -64,6 +70,11 @@ fn weight(op: i64) -> usize {
 }
 
 impl Maker {
+    pub fn new(seed: u64, families: &[i64]) -> Maker {
+        let (dice, desk, quarter) = (Dice::new(seed), Desk::first(), Quarter::new());
+        Maker { dice, desk, quarter, families: families.to_vec(), steps: vec![], focus: None }
+    }
+
     pub fn has(&self, families: &[i64]) -> bool {
         families.iter().any(|family| self.families.contains(family))
     }
@@ -81,7 +92,7 @@ impl Maker {
             return self.emit(801, &[timebase, channel]);
         }
         if self.has(&[3]) && self.dice.one_in(50) {
-            self.emit(902, &[timebase, channel, MOST_RECORDS]);
+            self.emit(902, &[timebase, channel, MANY_RECORDS]);
             return self.many_records();
         }
         self.emit(902, &[timebase, channel, room]);
@@ -90,7 +101,7 @@ impl Maker {
     /// A list of thousands: as wild as a short one, in order, nearly in order, falling, at few times or at many, and sometimes full.
     fn many_records(&mut self) {
         let some = self.dice.pick(1000, 3000);
-        let count = self.dice.of(&[some, some, some, MOST_RECORDS - 1, MOST_RECORDS]);
+        let count = self.dice.of(&[some, some, some, MANY_RECORDS - 1, MANY_RECORDS]);
         let order = self.dice.pick(0, 5);
         let middle = self.dice.near();
         for at in 0..count {
@@ -144,6 +155,35 @@ impl Maker {
         self.budget();
     }
 
+    /// A cycle call at its limit, from both sides: writes due, bytes free and room for about as many as one call makes, or for many more. Made again, it goes on where it stood.
+    fn many_writes(&mut self) {
+        let (timebase, channel) = (self.dice.good(Arg::Timebase), self.dice.pick(0, 15));
+        let (rooms, most) = ([0, 1, 2].map(|more| CYCLE_WRITES + more), MOST_RECORDS);
+        let room = self.dice.of(&[rooms[0], rooms[1], rooms[2], most, most, most]);
+        self.emit(902, &[timebase, channel, room]);
+        for _ in 0..self.dice.pick(0, 2) {
+            let record = self.dice.record();
+            self.emit(904, &record);
+        }
+        let near = CYCLE_WRITES + self.dice.pick(-2, 1);
+        let fitting = self.dice.of(&[near, near, 8_388_608]);
+        self.emit(903, &[1, fitting * 8, 0, 0]);
+        let until = self.dice.near();
+        let (due, rest) = (self.dice.pick(1, CYCLE_WRITES), self.dice.pick(-1, 1));
+        let (first, second) = self.dice.of(&[(due, CYCLE_WRITES - due + rest), (CYCLE_WRITES + rest, 1), (due, 3 * CYCLE_WRITES)]);
+        for (place, due) in [first, second, 1].into_iter().enumerate() {
+            let (place, length) = (place as i64, self.dice.pick(1, 30));
+            self.set(706, 20 + place);
+            self.emit(914, &[place, 1, length]);
+            self.emit(914, &[place, 2, until + length * (1 - due)]);
+        }
+        for _ in 0..self.dice.pick(2, 4) {
+            self.emit(709, &[until, 16]);
+        }
+        self.any_call(|call| call.op / 100 == 7);
+        self.new_desk();
+    }
+
     fn records(&mut self) {
         for _ in 0..self.dice.pick(1, 10) {
             let record = self.dice.record();
@@ -159,18 +199,25 @@ impl Maker {
             return;
         }
         let call = self.dice.of(&lots);
-        if let Some(args) = self.arguments(call) {
+        let fault = self.dice.one_in(12) && !is_inner(call.op);
+        let spoilt = match call.op {
+            _ if !fault => None,
+            // A record's field is chosen with what is wrong there.
+            109 | 301 => Some(0),
+            _ => Some(self.dice.pick(0, call.args.len().max(1) as i64 - 1) as usize),
+        };
+        if let Some(args) = self.arguments(call, spoilt) {
             self.emit(call.op, &args);
         }
     }
 
-    fn arguments(&mut self, call: &Call) -> Option<Vec<i64>> {
+    /// Sound arguments, or with one of them past its range; nothing where none can be named.
+    pub fn arguments(&mut self, call: &Call, spoilt: Option<usize>) -> Option<Vec<i64>> {
         let dice = &mut self.dice;
-        let fault = dice.one_in(12) && !is_inner(call.op);
         match call.op {
             109 | 301 => {
                 let mut record = dice.record();
-                if fault {
+                if spoilt.is_some() {
                     let (field, bad) = dice.record_fault(&record);
                     record[field] = bad;
                 }
@@ -186,27 +233,26 @@ impl Maker {
             }
             302 if self.desk.list.is_empty() => None,
             302 => Some(vec![dice.pick(0, self.desk.list.len() as i64 - 1)]),
-            _ => Some(self.by_kind(call, fault)),
+            _ => Some(self.by_kind(call, spoilt)),
         }
     }
 
-    /// Each argument by what it is; with a fault, one of them past its range.
-    fn by_kind(&mut self, call: &Call, fault: bool) -> Vec<i64> {
+    /// Each argument by what it is, the spoilt one past its range.
+    pub fn by_kind(&mut self, call: &Call, spoilt: Option<usize>) -> Vec<i64> {
         let dice = &mut self.dice;
-        let spoilt = if fault { dice.pick(0, call.args.len().max(1) as i64 - 1) as usize } else { usize::MAX };
         let mut args = vec![];
         for (at, &arg) in call.args.iter().enumerate() {
             if arg.is_list() {
                 let expand = call.op == 704 && args[1] == 1;
-                let list = dice.list(arg, !expand || fault);
-                let list = if at == spoilt { dice.spoil(arg, list) } else { list };
+                let list = dice.list(arg, !expand || spoilt.is_some());
+                let list = if Some(at) == spoilt { dice.spoil(arg, list) } else { list };
                 args.push(list.len() as i64);
                 args.extend(list);
             } else if arg == Arg::Offset {
-                let (offset, length) = if [at, at + 1].contains(&spoilt) { dice.stretch_outside() } else { dice.stretch() };
+                let (offset, length) = if [Some(at), Some(at + 1)].contains(&spoilt) { dice.stretch_outside() } else { dice.stretch() };
                 args.extend([offset, length]);
             } else if arg != Arg::Length {
-                let bad = if at == spoilt { dice.bad(arg) } else { None };
+                let bad = if Some(at) == spoilt { dice.bad(arg) } else { None };
                 let good = dice.good(arg);
                 args.push(bad.unwrap_or(good));
             }
@@ -234,19 +280,19 @@ impl Maker {
         }
     }
 
-    fn set(&mut self, op: i64, target: i64) {
+    pub fn set(&mut self, op: i64, target: i64) {
         let list: Vec<i64> = (0..self.dice.pick(1, 2) * 3).map(|_| self.dice.pick(0, 20)).collect();
         let mut args = vec![target];
         match op {
             704 => args.push(self.dice.pick(0, 2)),
             705 => {
                 let shape = self.dice.pick(0, 2);
-                return self.emit(op, &[target, shape, 0, 90, 12, 1]);
+                return self.emit(op, &[target, shape, 0, 90, 12, 1, 16]);
             }
-            706 => args.extend([self.dice.pick(1, 30), 16]),
+            706 => args.push(self.dice.pick(1, 30)),
             _ => (),
         }
-        args.push(list.len() as i64);
+        args.extend([16, list.len() as i64]);
         args.extend(list);
         self.emit(op, &args);
     }
