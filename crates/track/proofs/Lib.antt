@@ -1,2 +1,4 @@
 pub mod Reading
 pub mod Once
+pub mod Refused
+pub mod RefusedLent
