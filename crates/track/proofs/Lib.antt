@@ -1,4 +1,5 @@
 pub mod Reading
 pub mod Once
+pub mod Answers
 pub mod Refused
 pub mod RefusedLent
