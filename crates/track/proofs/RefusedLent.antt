@@ -19,7 +19,6 @@ use Rattle.eventlist.specs.declared.Taken.{Taken}
 use Rattle.eventlist.specs.Bends.{bendsTaken, bendsLeft}
 use Rattle.sorting.specs.Sorting.{sortRefusal, sortLeft}
 use Rattle.notes.specs.Notes.{splitTaken, splitLeft}
-use Rattle.cutting.specs.declared.Cut.{Cut}
 use Rattle.cutting.specs.declared.CcValue.{CcValue}
 use Rattle.cutting.specs.Cuts.{plain, whole, cutTaken, cutLeft}
 use Rattle.cycles.specs.declared.Cycle.{Cycle}
