@@ -1,25 +1,24 @@
 -- Text laid into a buffer: nothing changes nothing, one byte is a store, and a text behind a text is the text of both.
 use mathlib.Core.Path.{_≡_, sym, _∙_}
-use mathlib.Core.List.{List, [], _∷_, _++_, append-assoc}
+use mathlib.Core.List.{List, [], _∷_, _++_, append-assoc, append-nil}
 use Prim.Native.Nat.{ℕ, suc, _+_, _≤_, _<_}
 use native.Mathlib.Omega.{arith}
 use native.Mathlib.Numerals.{add-one}
-use lib.ListN.{length, take, drop, set, length-append}
-use lib.Seq.{append-snoc, set-split, take-at, drop-append-add, drop-drop, length-take-le, paste, paste-zero, take-length}
+use lib.ListN.{length, take, drop, set, length-append, length-drop, take-append-drop}
+use lib.Seq.{append-snoc, set-split, take-at, drop-append-add, drop-drop, length-take-le}
 use Rattle.text.specs.Laying.{laid}
 
 pub laid-none : (at : ℕ) (o : List ℕ) → o ≡ laid at [] o
 unfolding laid
-laid-none at o = paste-zero o at []
+laid-none at o = let e : at + 0 ≡ at = omega arith in rw (e, append-nil (take at o)) (sym (take-append-drop at o))
+
+pub laid-long : (at : ℕ) (a o : List ℕ) → at + length a ≤ length o → length (laid at a o) ≡ length o
+unfolding laid
+laid-long at a o h = simp (length-append, length-take-le at o (omega arith), length-drop) (omega arith)
 
 pub laid-byte : (at b : ℕ) (o : List ℕ) → at < length o → set o at b ≡ laid at (b ∷ []) o
 unfolding laid
 laid-byte at b o h = set-split o at b h ∙ rw add-one (sym (append-snoc (take at o) b (drop (suc at) o)))
-
--- a copy of the whole of s
-pub laid-all : (at : ℕ) (s o : List ℕ) → paste o at s (length s) ≡ laid at s o
-unfolding laid
-laid-all at s o = rw take-length
 
 module _ (at : ℕ) (a b o : List ℕ) (h : at ≤ length o) where
   front : length (take at o ++ a) ≡ at + length a
@@ -33,6 +32,10 @@ module _ (at : ℕ) (a b o : List ℕ) (h : at ≤ length o) where
   laid-behind =
       let e : at + length a + length b ≡ at + length (a ++ b) = omega (arith, length-append a b) in
       rw (take-at (take at o ++ a) (drop (at + length a) o) (at + length a) front, behind, e, append-assoc (take at o) a b)
+
+-- one byte more is a store behind what is laid
+pub laid-more : (at : ℕ) (a o : List ℕ) (b : ℕ) → at + length a < length o → set (laid at a o) (at + length a) b ≡ laid at (a ++ (b ∷ [])) o
+laid-more at a o b h = laid-byte (at + length a) b (laid at a o) (rw (laid-long at a o (omega arith)) h) ∙ laid-behind at a (b ∷ []) o (omega arith)
 
 -- a text put, and another put behind it
 pub put-behind : (at : ℕ) (o a b : List ℕ) {x w : List ℕ} {p r : ℕ} → at ≤ length o → x ≡ laid at a o → p ≡ at + length a → w ≡ laid p b x → r ≡ p + length b

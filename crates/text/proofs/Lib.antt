@@ -1,3 +1,3 @@
+pub mod Digits
 pub mod Laying
 pub mod Sizes
-pub mod Spelling

@@ -10,7 +10,8 @@ use lib.IntN.{ℤ, pos, negsuc, natAbs}
 use lib.Signed.{ltZ}
 use borrow.Author.Tests.{ltb-true}
 use mir.Syntax.{Width, w8, w16, w32, w64, w128}
-use mir.Val.{ofZ, SFits, bits, hbits}
+use mir.Facts.{toZ-pos}
+use mir.Val.{toZ, ofZ, SFits, bits, hbits}
 use Rattle.text.specs.Decimals.{signOf}
 
 none-below : {k : ℕ} → k < 0 → ⊥
@@ -33,10 +34,27 @@ halves w32 = refl
 halves w64 = refl
 halves w128 = refl
 
-pub high : (w : Width) (z : ℤ) → SFits w z → ltZ z (pos 0) ≡ true → (2 ^ hbits w ≤ ofZ w z) × (ofZ w z < 2 ^ bits w) × (2 ^ bits w - ofZ w z ≡ natAbs z)
-high w (pos k) f e = absurd (none-below {k = k} (ltb-true k 0 e))
-high w (negsuc k) f e = let g = f .sfits in let h = halves w in (omega arith, omega arith, omega arith)
+-- a number below 0: its bits all turned are its size less one, and have no sign
+pub record Below (w : Width) (z : ℤ) : Type 0 where
+  pub high : 2 ^ hbits w ≤ ofZ w z
+  pub fits : ofZ w z < 2 ^ bits w
+  pub size : 2 ^ bits w - ofZ w z ≡ natAbs z
+  pub turned : toZ w (2 ^ bits w - 1 - ofZ w z) ≡ pos (2 ^ bits w - 1 - ofZ w z)
 
-pub low : (w : Width) (z : ℤ) → SFits w z → ltZ z (pos 0) ≡ false → (ofZ w z < 2 ^ hbits w) × (ofZ w z ≡ natAbs z)
-low w (pos k) f e = (f .sfits, refl)
-low w (negsuc k) f e = absurd (subst T e tt)
+-- and one that is not: its bits are its size
+pub record Above (w : Width) (z : ℤ) : Type 0 where
+  pub low : ofZ w z < 2 ^ hbits w
+  pub size : ofZ w z ≡ natAbs z
+  pub plain : toZ w (ofZ w z) ≡ pos (ofZ w z)
+
+pub below : (w : Width) (z : ℤ) → SFits w z → ltZ z (pos 0) ≡ true → Below w z
+below w (pos k) f e = absurd (none-below {k = k} (ltb-true k 0 e))
+below w (negsuc k) f e =
+    let g = f .sfits in
+    let h = halves w in
+    let b : 2 ^ hbits w ≤ ofZ w (negsuc k) = omega arith in
+    record { high = b; fits = omega arith; size = omega arith; turned = toZ-pos w (omega arith) }
+
+pub above : (w : Width) (z : ℤ) → SFits w z → ltZ z (pos 0) ≡ false → Above w z
+above w (pos k) f e = record { low = f .sfits; size = refl; plain = toZ-pos w (f .sfits) }
+above w (negsuc k) f e = absurd (subst T e tt)

@@ -6,11 +6,11 @@ use lib.ListN.{getD}
 use mir.Syntax.{w32, w64}
 use mir.Val.{toZ}
 
--- the four bytes at p, as bits
+-- four bytes from p on: each counts 256 times the one before it
 abbrev pub bitsAt : List ℕ → ℕ → ℕ
 bitsAt s p = getD s p 0 + 256 * getD s (p + 1) 0 + 65536 * getD s (p + 2) 0 + 16777216 * getD s (p + 3) 0
 
--- the eight bytes at p, as bits
+-- eight bytes from p on
 abbrev pub wideBitsAt : List ℕ → ℕ → ℕ
 wideBitsAt s p = bitsAt s p + 4294967296 * bitsAt s (p + 4)
 

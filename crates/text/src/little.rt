@@ -13,7 +13,7 @@ fn wide(b: u8) -> u32
     b as u32
 }
 
-// The four bytes at `at` as bits.
+// Four bytes from `at` on: the bits of a number.
 pub fn bits_at(s: &[u8], at: usize) -> u32
     requires { ⌜ at + 4 ≤ length (now s) ⌝ }
     ensures { λ r. ⌜ r ≡ bitsAt (now (s .entry)) at ⌝ }
@@ -22,7 +22,7 @@ pub fn bits_at(s: &[u8], at: usize) -> u32
     wide(s[at]) + 256 * wide(s[at + 1]) + 65536 * wide(s[at + 2]) + 16777216 * wide(s[at + 3])
 }
 
-// The eight bytes at `at` as bits.
+// Eight bytes from `at` on.
 pub fn wide_bits_at(s: &[u8], at: usize) -> u64
     requires { ⌜ at + 8 ≤ length (now s) ⌝ }
     ensures { λ r. ⌜ r ≡ wideBitsAt (now (s .entry)) at ⌝ }

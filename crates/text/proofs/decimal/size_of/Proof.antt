@@ -1,44 +1,29 @@
--- `size_of`: the bits of a number below 0, all turned, are its size less one.
-use mathlib.Core.Path.{_≡_}
-use Prim.Native.Nat.{ℕ, _-_, _≤_, _<_}
+-- One more than the bits of a number below 0, all turned (`Below`); else the bits themselves.
 use native.Mathlib.Omega.{arith}
-use mir.Facts.{toZ-ofZ, toZ-pos}
+use mir.Facts.{toZ-ofZ}
 use mir.Syntax.{w64}
-use mir.Val.{toZ, ofZ}
-use lib.IntN.{pos, natAbs}
-use Rattle.text.proofs.Sizes.{high, low}
 use borrow.Author.Needs.{needs}
+use Rattle.text.proofs.Sizes.{Below, below, Above, above}
 use Rattle.text.proofs.decimal.size_of.Statement.{statement}
 use Rattle.text.proofs.decimal.size_of.Tie as tie
 
-module _ (c : tie.Then1) where
-  abbrev n : ℕ
-  n = ofZ w64 (c .before .args .z)
+under : (c : tie.Then1) → Below w64 (c .before .args .z)
+under c = below w64 _ (c .before .fits .z) (rw (toZ-ofZ (c .before .fits .z)) at (c .if1 .taken))
 
-  up : (9223372036854775808 ≤ n) × (n < 18446744073709551616) × (18446744073709551616 - n ≡ natAbs (c .before .args .z))
-  up = high w64 (c .before .args .z) (c .before .fits .z) (rw (toZ-ofZ (c .before .fits .z)) at (c .if1 .taken))
-
-  turned : toZ w64 (18446744073709551615 - n) ≡ pos (18446744073709551615 - n)
-  turned = let h = up .0 in toZ-pos w64 (omega arith)
-
-module _ (c : tie.Else1) where
-  down : (ofZ w64 (c .before .args .z) < 9223372036854775808) × (ofZ w64 (c .before .args .z) ≡ natAbs (c .before .args .z))
-  down = low w64 (c .before .args .z) (c .before .fits .z) (rw (toZ-ofZ (c .before .fits .z)) at (c .if1 .left))
-
-  plain : toZ w64 (ofZ w64 (c .before .args .z)) ≡ pos (ofZ w64 (c .before .args .z))
-  plain = toZ-pos w64 (down .0)
+over : (c : tie.Else1) → Above w64 (c .before .args .z)
+over c = above w64 _ (c .before .fits .z) (rw (toZ-ofZ (c .before .fits .z)) at (c .if1 .left))
 
 cast-result : tie.Need-cast-result
-cast-result c = rw (turned c) (tt, omega arith)
+cast-result c = rw (under c .turned) (tt, omega arith)
 
 add-result : tie.Need-add-result
-add-result c = let h = up c .0 in rw (turned c) (omega arith)
+add-result c = let u = under c in rw (u .turned) (omega arith)
 
 returns : tie.Need-returns
-returns c = let h = up c in rw (turned c) (omega (arith, h .1, h .2))
+returns c = let u = under c in rw (u .turned) (omega arith)
 
 cast-result-2 : tie.Need-cast-result-2
-cast-result-2 c = rw (plain c) (tt, omega (arith, down c .0))
+cast-result-2 c = let o = over c in rw (o .plain) (tt, omega arith)
 
 returns-2 : tie.Need-returns-2
 returns-2 c = search needs
