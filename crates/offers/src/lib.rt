@@ -6,6 +6,7 @@ ghost use mathlib.Core.Path.{_≡_};
 ghost use mathlib.Core.Bool.{cond};
 ghost use mathlib.Core.List.{[], _∷_};
 ghost use Prim.Native.Nat.{_+_, _*_, _-_, _<_, _^_};
+ghost use lib.IntN.{pos};
 ghost use lib.ListN.{length, getD};
 ghost use Rattle.values.specs.Value.{Ready, Near};
 ghost use Rattle.offers.specs.Rules.{ruleOf};
@@ -185,23 +186,28 @@ pub fn length_of(z: i64) -> u64
     z as u64
 }
 
+fn number_at(numbers: &[i32], i: usize) -> i64
+    requires { ⌜ i < length (now numbers) ⌝ }
+    ensures { λ r. ⌜ r ≡ getD (now (numbers .entry)) i (pos 0) ⌝ }
+{
+    values::widened(numbers[i])
+}
+
 // The triple at place `i` of a list of numbers.
 fn triple_at(numbers: &[i32], i: usize) -> Piece
     requires { ⌜ i < length (triples (now numbers)) ⌝ }
     ensures { λ r. ⌜ r ≡ getD (triples (now (numbers .entry))) i noPiece ⌝ }
 {
-    let a = i * 3;
-    let low = values::widened(numbers[a]);
-    let high = values::widened(numbers[a + 1]);
-    let len = length_of(values::widened(numbers[a + 2]));
+    let first = i * 3;
     Piece {
-        low: low,
-        high: high,
-        len: len,
+        low: number_at(numbers, first),
+        high: number_at(numbers, first + 1),
+        len: length_of(number_at(numbers, first + 2)),
         shape: Shape::Glide,
     }
 }
 
+// A source when it has given a triple of `len` steps.
 fn source_after(s: Source, count: usize, len: u64) -> Source
     requires { ⌜ s .at < count ⌝ }
     ensures { λ r. ⌜ r ≡ sourceAfter count s len ⌝ }
@@ -209,19 +215,11 @@ fn source_after(s: Source, count: usize, len: u64) -> Source
     let mode = s.mode;
     let next = s.at + 1;
     let at = place_after(mode, next == count, next);
-    if len < s.rest {
-        return Source {
-            mode: mode,
-            at: at,
-            rest: s.rest - len,
-            whole: s.whole,
-            total: s.total,
-        };
-    }
+    let rest = if len < s.rest { s.rest - len } else { 0 };
     Source {
         mode: mode,
         at: at,
-        rest: 0,
+        rest: rest,
         whole: s.whole,
         total: s.total,
     }
@@ -284,29 +282,22 @@ pub fn start_source(mode: Mode, numbers: &[i32], n: u64) -> Source
     ensures { λ r. ⌜ r ≡ startingAt mode (triples (now (numbers .entry))) n ⌝ }
 {
     let total = total_of(numbers);
-    if n == 0 {
-        return Source {
-            mode: Mode::Normal,
-            at: 0,
-            rest: 0,
-            whole: 0,
-            total: 1,
-        };
-    }
-    if total == 0 {
-        return Source {
-            mode: Mode::Normal,
-            at: 0,
-            rest: 0,
-            whole: 0,
-            total: 1,
-        };
+    if 0 < n {
+        if 0 < total {
+            return Source {
+                mode: mode,
+                at: 0,
+                rest: n,
+                whole: n,
+                total: total,
+            };
+        }
     }
     Source {
-        mode: mode,
+        mode: Mode::Normal,
         at: 0,
-        rest: n,
-        whole: n,
-        total: total,
+        rest: 0,
+        whole: 0,
+        total: 1,
     }
 }

@@ -1,3 +1,4 @@
+-- Each mode's test, told by its arm.
 use Prim.Native.Nat.{_-_}
 use borrow.Author.Needs.{needs}
 use Rattle.offers.proofs.has_more.Statement.{statement}

@@ -1,4 +1,5 @@
-use mathlib.Core.Path.{_≡_, sym}
+-- By mode; a Repeat's length is the lesser of two.
+use mathlib.Core.Path.{_≡_}
 use native.Mathlib.Omega.{arith}
 use Prim.Native.Nat.{_-_, _^_, min}
 use native.Mathlib.Nat.{mul-le-mul}
@@ -12,10 +13,13 @@ enum-told c = search needs
 enum-told-2 : tie.Need-enum-told-2
 enum-told-2 c = search needs
 
+-- two numbers of 32 bits, multiplied, are one of 64
 mul-result : tie.Need-mul-result
-mul-result c = let s = c .before .before .before .before in
-    let p = mul-le-mul {n₁ = s .args .len} {m₁ = s .args .s .whole} {n₂ = 2 ^ 32 - 1} {m₂ = 2 ^ 32 - 1} (let h = s .pre .2 in omega arith) (let h = s .pre .1 in omega arith) in
-    omega arith
+mul-result c =
+    let s = c .before .before .before .before in
+    let p = s .pre in
+    let most = 2 ^ 32 - 1 in
+    omega (arith, mul-le-mul {n₁ = s .args .len} {m₁ = s .args .s .whole} {n₂ = most} {m₂ = most} (omega (arith, p .2)) (omega (arith, p .1)))
 
 div-result : tie.Need-div-result
 div-result c = search needs
@@ -33,10 +37,16 @@ returns-3 : tie.Need-returns-3
 returns-3 c = rw (c .before .before .before .enum-told2 .given .1, c .before .before .if1 .left)
 
 returns-4 : tie.Need-returns-4
-returns-4 c = let s = c .before .before .before .before in let e : min (s .args .len) (s .args .s .rest) ≡ s .args .len = omega arith in rw (c .before .before .enum-told3 .given .1) (sym e)
+returns-4 c =
+    let a = c .before .before .before .before .args in
+    let least : a .len ≡ min (a .len) (a .s .rest) = omega arith in
+    rw (c .before .before .enum-told3 .given .1) least
 
 returns-5 : tie.Need-returns-5
-returns-5 c = let s = c .before .before .before .before in let e : min (s .args .len) (s .args .s .rest) ≡ s .args .s .rest = omega arith in rw (c .before .before .enum-told3 .given .1) (sym e)
+returns-5 c =
+    let a = c .before .before .before .before .args in
+    let least : a .s .rest ≡ min (a .len) (a .s .rest) = omega arith in
+    rw (c .before .before .enum-told3 .given .1) least
 
 pub next-length-spec : {M : Type 1} → statement M
 next-length-spec =

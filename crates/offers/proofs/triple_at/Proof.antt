@@ -1,81 +1,64 @@
-use mathlib.Core.Path.{_≡_, sym, _∙_}
+-- Its three numbers lie within the list (`within`), and are the triple's (`triple-is`).
+use mathlib.Core.Path.{sym}
+use Prim.Native.Nat.{_+_, _*_, _≤_}
 use native.Mathlib.Omega.{arith}
-use Prim.Native.Nat.{_+_, _-_, _*_}
-use lib.IntN.{pos}
-use lib.ListN.{getD}
-use mir.Syntax.{w32, w64}
+use lib.ListN.{length}
+use mir.Syntax.{w64}
 use mir.Facts.{toZ-ofZ}
-use borrow.Author.Needs.{sfits-of}
+use borrow.Author.Needs.{needs, sfits-of}
 use Rattle.offers.proofs.Tripling.{within, triple-is}
-use borrow.Author.Needs.{needs}
 use Rattle.offers.proofs.triple_at.Statement.{statement}
 use Rattle.offers.proofs.triple_at.Tie as tie
 
-mul-a : tie.Need-mul-a
-mul-a c = let s = c in let g = s .good .0 in omega (arith, within (s .args .numbers .now) (s .args .i) (s .pre))
+room : (s : tie.Start) → s .args .i * 3 + 3 ≤ length (s .args .numbers .now)
+room s = within (s .args .numbers .now) (s .args .i) (s .pre)
 
-mul-widened : tie.Need-mul-widened
-mul-widened c = let s = c in let g = s .good .0 in omega (arith, within (s .args .numbers .now) (s .args .i) (s .pre))
+mul-first : tie.Need-mul-first
+mul-first c = omega (arith, room c, c .good .0)
 
-shared-slice-copy-out-widened : tie.Need-shared-slice-copy-out-widened
-shared-slice-copy-out-widened c = let s = c in let g = s .good .0 in omega (arith, within (s .args .numbers .now) (s .args .i) (s .pre))
+number-at-requires : tie.Need-number-at-requires
+number-at-requires c κs = omega (arith, room c)
 
-widened-requires : tie.Need-widened-requires
-widened-requires c κs = search needs
+add-number-at : tie.Need-add-number-at
+add-number-at c = omega (arith, room (c .before), c .before .good .0)
 
-add-widened : tie.Need-add-widened
-add-widened c = let s = c .before .before in let g = s .good .0 in omega (arith, within (s .args .numbers .now) (s .args .i) (s .pre))
+number-at-requires-2 : tie.Need-number-at-requires-2
+number-at-requires-2 c κs = omega (arith, room (c .before))
 
-mul-widened-2 : tie.Need-mul-widened-2
-mul-widened-2 c = let s = c .before .before in let g = s .good .0 in omega (arith, within (s .args .numbers .now) (s .args .i) (s .pre))
+add-number-at-2 : tie.Need-add-number-at-2
+add-number-at-2 c = let s = c .before .before in omega (arith, room s, s .good .0)
 
-shared-slice-copy-out-widened-2 : tie.Need-shared-slice-copy-out-widened-2
-shared-slice-copy-out-widened-2 c = let s = c .before .before in let g = s .good .0 in omega (arith, within (s .args .numbers .now) (s .args .i) (s .pre))
-
-widened-requires-2 : tie.Need-widened-requires-2
-widened-requires-2 c κs = search needs
-
-add-widened-2 : tie.Need-add-widened-2
-add-widened-2 c = let s = c .before .before .before .before in let g = s .good .0 in omega (arith, within (s .args .numbers .now) (s .args .i) (s .pre))
-
-mul-widened-3 : tie.Need-mul-widened-3
-mul-widened-3 c = let s = c .before .before .before .before in let g = s .good .0 in omega (arith, within (s .args .numbers .now) (s .args .i) (s .pre))
-
-shared-slice-copy-out-widened-3 : tie.Need-shared-slice-copy-out-widened-3
-shared-slice-copy-out-widened-3 c = let s = c .before .before .before .before in let g = s .good .0 in omega (arith, within (s .args .numbers .now) (s .args .i) (s .pre))
-
-widened-requires-3 : tie.Need-widened-requires-3
-widened-requires-3 c κs = search needs
+number-at-requires-3 : tie.Need-number-at-requires-3
+number-at-requires-3 c κs = omega (arith, room (c .before .before))
 
 length-of-requires : tie.Need-length-of-requires
 length-of-requires c κs = search needs
 
 returns : tie.Need-returns
-returns c = let a = c .before .before .before .before .before in
-    let s = a .before .before in
-    let v = c .before .before .before in
-    let u = c .before in
-    let l = s .args .numbers .now in
-    let x : a .widened .result ≡ getD l (s .args .i * 3) (pos 0) = a .widened .ensures .0 ∙ toZ-ofZ {w = w32} (sfits-of (a .before .widened-arg .given)) in
-    let y : v .widened2 .result ≡ getD l (s .args .i * 3 + 1) (pos 0) = v .widened2 .ensures .0 ∙ toZ-ofZ {w = w32} (sfits-of (v .before .widened-arg2 .given)) in
-    let z : u .widened3 .result ≡ getD l (s .args .i * 3 + 2) (pos 0) = u .widened3 .ensures .0 ∙ toZ-ofZ {w = w32} (sfits-of (u .before .widened-arg3 .given)) in
-    rw (toZ-ofZ {w = w64} (sfits-of (a .widened .ok)), toZ-ofZ {w = w64} (sfits-of (v .widened2 .ok)), c .length-of .ensures, toZ-ofZ {w = w64} (sfits-of (u .widened3 .ok)), x, y, z) (sym (triple-is l (s .args .i) (s .pre)))
+returns c =
+    let len = c .before .number-at3 in
+    let high = c .before .before .number-at2 in
+    let low = c .before .before .before .number-at in
+    let s = c .before .before .before .before in
+    rw (
+      toZ-ofZ {w = w64} {z = low .result} (sfits-of (low .ok)),
+      low .ensures,
+      toZ-ofZ {w = w64} {z = high .result} (sfits-of (high .ok)),
+      high .ensures,
+      c .length-of .ensures,
+      toZ-ofZ {w = w64} (sfits-of (len .ok)),
+      len .ensures,
+    ) (sym (triple-is (s .args .numbers .now) (s .args .i) (s .pre)))
 
 pub triple-at-spec : {M : Type 1} → statement M
 triple-at-spec =
     tie.close
     (tie.spec
-    mul-a
-    mul-widened
-    shared-slice-copy-out-widened
-    widened-requires
-    add-widened
-    mul-widened-2
-    shared-slice-copy-out-widened-2
-    widened-requires-2
-    add-widened-2
-    mul-widened-3
-    shared-slice-copy-out-widened-3
-    widened-requires-3
+    mul-first
+    number-at-requires
+    add-number-at
+    number-at-requires-2
+    add-number-at-2
+    number-at-requires-3
     length-of-requires
     returns)
