@@ -1,10 +1,12 @@
 -- A run over a source: each turn takes the next piece off what is left.
-use mathlib.Core.Path.{_≡_, refl, sym, subst}
-use mathlib.Core.Bool.{Bool, true, false, true≢false}
+use mathlib.Core.Path.{_≡_, sym, subst}
+use mathlib.Core.Bool.{true, false, true≢false}
 use mathlib.Core.List.{List, [], _∷_, _++_}
+use mathlib.Core.Logic.{⊎-elim}
 use Prim.Native.Nat.{ℕ, _+_, _-_, _≤_, _<_, _^_, min}
 use native.Mathlib.Omega.{arith}
 use lib.ListN.{length}
+use Rattle.laws.proofs.Bools.{which}
 use Rattle.offers.specs.declared.Piece.{Piece}
 use Rattle.offers.specs.declared.Source.{Source}
 use Rattle.offers.specs.declared.Next.{Next}
@@ -26,11 +28,15 @@ record Says (ts : List Piece) (s : Source) (n : Next) : Type 0 where
 
 says : (ts : List Piece) (s : Source) → Sound ts s → Says ts s (nextOf ts s)
 unfolding nextOf
-says ts s ok = go (moreBy (s .mode) (length ts) s) refl
+says ts s ok = ⊎-elim (λ e. more e) (λ e. none e) (which (moreBy (s .mode) (length ts) s))
   where
-    go : (t : Bool) → moreBy (s .mode) (length ts) s ≡ t → Says ts s (nextOf ts s)
-    go true e = rw e (record { gives = λ q. rest-more ts s ok e; onward = λ q. sound-after ts s ok e _; ends = λ q. absurd (true≢false q) })
-    go false e = rw e (record { gives = λ q. absurd (true≢false (sym q)); onward = λ q. absurd (true≢false (sym q)); ends = λ q. rest-none ts s ok e })
+    more : moreBy (s .mode) (length ts) s ≡ true → Says ts s (nextOf ts s)
+    more e = rw e (record { gives = λ q. rest-more ts s ok e; onward = λ q. sound-after ts s ok e _; ends = λ q. absurd (true≢false q) })
+
+    none : moreBy (s .mode) (length ts) s ≡ false → Says ts s (nextOf ts s)
+    none e =
+        let never : false ≡ true → ⊥ = λ q. true≢false (sym q) in
+        rw e (record { gives = λ q. absurd (never q); onward = λ q. absurd (never q); ends = λ q. rest-none ts s ok e })
 
 pub offers-more : (f : ℕ) (t : Piece) (us : List Piece) (m at : ℕ) → offers f (t ∷ us) m at ≡ pointsOf f at t (min (t .len) m) ++ offers f us (m - min (t .len) m) (at + t .len)
 unfolding offers

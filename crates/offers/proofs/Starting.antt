@@ -1,44 +1,50 @@
 -- A source that starts has to give exactly the triples of its mode; and how long those last.
 use mathlib.Core.Path.{_≡_, refl, sym, ap, ap₂, _∙_}
-use mathlib.Core.Bool.{Bool, true, false, cond, _||_, true≢false}
+use mathlib.Core.Bool.{Bool, true, false, _||_, true≢false}
 use mathlib.Core.List.{List, [], _∷_, _++_}
+use mathlib.Core.Logic.{⊎-elim}
 use Prim.Native.Nat.{ℕ, zero, suc, _+_, _-_, _*_, _/_, _≤_, _<_, min, _^_}
 use native.Mathlib.Nat.{div-mul-le-self, mul-comm, mul-add, le-refl, mul-sub, le-of-mul-le-mul-right}
 use native.Mathlib.Omega.{arith}
 use borrow.Author.Tests.{eqb-true}
 use lib.Dec.{eqb}
 use lib.ListN.{length}
+use Rattle.laws.proofs.Bools.{which}
 use Rattle.offers.specs.declared.Piece.{Piece}
 use Rattle.offers.specs.declared.Mode.{Mode}
 use Rattle.offers.specs.declared.Mode.the-variants.{Normal, Expand, Repeat}
 use Rattle.offers.specs.Pieces.{total}
-use Rattle.offers.specs.Waves.{withLen, expand, fill, rounds, around, triplesOf, unchanged}
+use Rattle.offers.specs.Waves.{expand, fill, rounds, around, triplesOf, unchanged}
 use Rattle.offers.specs.Sources.{restBy, restOf, Sound, startingAt}
 use Rattle.offers.proofs.Sources.{around-more, clash}
 
--- ---- not unchanged: both are above 0
+-- ---- a wave that is not used unchanged has steps to fill, and something to fill them with
+neither : (a b : Bool) → a || b ≡ false → (a ≡ false) × (b ≡ false)
+neither true b e = absurd (true≢false e)
+neither false b e = (refl, e)
+
+above : (n : ℕ) → eqb n 0 ≡ false → 0 < n
+above zero e = absurd (true≢false e)
+above (suc n) e = omega arith
+
 pub some : (n t : ℕ) → eqb n 0 || eqb t 0 ≡ false → (0 < n) × (0 < t)
-some zero t e = absurd (true≢false e)
-some (suc n) zero e = absurd (true≢false (or-right (eqb (suc n) 0) e))
-  where
-    or-right : (b : Bool) → b || true ≡ false → true ≡ false
-    or-right true f = f
-    or-right false f = f
-some (suc n) (suc t) e = (omega arith, omega arith)
+some n t e = let q = neither (eqb n 0) (eqb t 0) e in (above n (q .0), above t (q .1))
 
 pub start-gives : (m : Mode) (ts : List Piece) (n : ℕ) → restOf ts (startingAt m ts n) ≡ triplesOf m ts n
 unfolding restBy triplesOf startingAt
-start-gives m ts n = go m (unchanged ts n) refl
+start-gives m ts n = ⊎-elim (λ e. plain m e) (λ e. filled m e) (which (unchanged ts n))
   where
-    go : (m : Mode) (b : Bool) → unchanged ts n ≡ b → restOf ts (startingAt m ts n) ≡ triplesOf m ts n
-    go Normal true e = rw e
-    go Expand true e = rw e
-    go Repeat true e = rw e
-    go Normal false e = rw e
-    go Expand false e = rw e
-    go Repeat false e = rw e (sym (around-more ts n (some n (total ts) e .1)))
+    plain : (m : Mode) → unchanged ts n ≡ true → restOf ts (startingAt m ts n) ≡ triplesOf m ts n
+    plain Normal e = rw e
+    plain Expand e = rw e
+    plain Repeat e = rw e
 
--- ---- how long
+    filled : (m : Mode) → unchanged ts n ≡ false → restOf ts (startingAt m ts n) ≡ triplesOf m ts n
+    filled Normal e = rw e
+    filled Expand e = rw e
+    filled Repeat e = rw e (sym (around-more ts n (some n (total ts) e .1)))
+
+-- ---- how long the triples of each mode last
 pub total-append : (a b : List Piece) → total (a ++ b) ≡ total a + total b
 unfolding total
 total-append [] b = omega arith
@@ -47,31 +53,33 @@ total-append (t ∷ a) b = omega (arith, total-append a b)
 pub total-fill : (ts : List Piece) (n : ℕ) → total (fill ts n) ≡ min (total ts) n
 unfolding total fill
 total-fill [] n = omega arith
-total-fill (t ∷ ts) zero = omega arith
-total-fill (t ∷ ts) (suc n) = go (eqb (suc n) 0) refl (total-fill ts (suc n - t .len))
-  where
-    go : (b : Bool) → eqb (suc n) 0 ≡ b → total (fill ts (suc n - t .len)) ≡ min (total ts) (suc n - t .len) → total (cond b [] (withLen t (min (t .len) (suc n)) ∷ fill ts (suc n - t .len))) ≡ min (t .len + total ts) (suc n)
-    go true e h = let q = eqb-true (suc n) 0 e in absurd (omega arith)
-    go false e h = omega arith
+total-fill (t ∷ ts) n =
+    let rest = total-fill ts (n - t .len) in
+    ⊎-elim
+    (λ b. let none = eqb-true n 0 b in rw b (omega arith))
+    (λ b. let some = above n b in rw b (omega arith))
+    (which (eqb n 0))
 
-total-rounds : (k n : ℕ) (ts : List Piece) → 0 < total ts → n ≤ k → total (rounds k ts n) ≡ n
+-- as many rounds as there are steps fill them all
+full : (ts : List Piece) → 0 < total ts → (k n : ℕ) → n ≤ k → total (rounds k ts n) ≡ n
 unfolding rounds total
-total-rounds zero n ts h p = let e : n ≡ 0 = omega arith in sym e
-total-rounds (suc k) n ts h p = total-append (fill ts n) (rounds k ts (n - total ts)) ∙ omega (arith, total-fill ts n, total-rounds k (n - total ts) ts h (omega arith))
+full ts some zero n p = omega arith
+full ts some (suc k) n p =
+    let left = n - total ts in
+    total-append (fill ts n) (rounds k ts left) ∙ omega (arith, total-fill ts n, full ts some k left (omega arith))
 
 pub total-around : (ts : List Piece) (n : ℕ) → 0 < total ts → total (around ts n) ≡ n
-total-around ts n h = total-rounds n n ts h (omega arith)
+total-around ts n some = full ts some n n (omega arith)
 
 -- a part of n, as great as a part of the total, is not more than what is left
 pub part-le : (len n tot r rest : ℕ) → 0 < tot → n * (len + rest) ≤ r * tot → (len * n / tot ≤ r) × (n * rest ≤ (r - len * n / tot) * tot)
-part-le len n tot r rest h p =
+part-le len n tot r rest some p =
     let f = len * n / tot in
-    let a : f * tot ≤ len * n = div-mul-le-self (len * n) tot in
-    let b : n * (len + rest) ≡ n * len + n * rest = mul-add n len rest in
-    let c : n * len ≡ len * n = mul-comm n len in
-    let d : (r - f) * tot ≡ r * tot - f * tot = mul-comm (r - f) tot ∙ mul-sub tot r f ∙ ap₂ (λ (x y : ℕ). x - y) (mul-comm tot r) (mul-comm tot f) in
-    let e : f * tot ≤ r * tot = omega arith in
-    (le-of-mul-le-mul-right e h, omega arith)
+    let floor = div-mul-le-self (len * n) tot in
+    let both = mul-add n len rest ∙ ap (λ (x : ℕ). x + n * rest) (mul-comm n len) in
+    let less : (r - f) * tot ≡ r * tot - f * tot = mul-comm (r - f) tot ∙ mul-sub tot r f ∙ ap₂ (λ (x y : ℕ). x - y) (mul-comm tot r) (mul-comm tot f) in
+    let under : f * tot ≤ r * tot = omega arith in
+    (le-of-mul-le-mul-right under some, omega arith)
 
 pub total-expand : (n tot r : ℕ) (t : Piece) (us : List Piece) → 0 < tot → n * total (t ∷ us) ≤ r * tot → total (expand n tot r (t ∷ us)) ≡ r
 unfolding expand total
@@ -92,17 +100,17 @@ long Repeat ts n e h = rw e (total-around ts n (some n (total ts) e .1))
 long Expand [] n e h = absurd (no-length (some n (total []) e .1))
 long Expand (t ∷ us) n e h = rw e (total-expand n (total (t ∷ us)) n t us (some n (total (t ∷ us)) e .1) (le-refl (n * total (t ∷ us))))
 
-nonempty : (ts : List Piece) → 0 < total ts → 0 < length ts
-nonempty [] h = absurd (no-length h)
-nonempty (t ∷ ts) h = omega arith
+any : (ts : List Piece) → 0 < total ts → 0 < length ts
+any [] h = absurd (no-length h)
+any (t ∷ ts) h = omega arith
 
--- and it is in order
+-- ---- it is in order
 pub start-sound : (m : Mode) (ts : List Piece) (n : ℕ) → n < 2 ^ 32 → Sound ts (startingAt m ts n)
 unfolding startingAt
-start-sound m ts n small = go (unchanged ts n) refl
+start-sound m ts n small = ⊎-elim (λ e. plain e) (λ e. filled e (some n (total ts) e .1)) (which (unchanged ts n))
   where
-    go : (b : Bool) → unchanged ts n ≡ b → Sound ts (startingAt m ts n)
-    go true e = rw e (record { inside = omega arith; turns = λ q. absurd (clash q); some = λ q. absurd (clash q); parts = omega arith; small = omega arith })
-    go false e =
-        let t = some n (total ts) e .1 in
-        rw e (record { inside = omega arith; turns = λ q. nonempty ts t; some = λ q. t; parts = t; small = small })
+    plain : unchanged ts n ≡ true → Sound ts (startingAt m ts n)
+    plain e = rw e (record { inside = omega arith; turns = λ q. absurd (clash q); some = λ q. absurd (clash q); parts = omega arith; small = omega arith })
+
+    filled : unchanged ts n ≡ false → 0 < total ts → Sound ts (startingAt m ts n)
+    filled e t = rw e (record { inside = omega arith; turns = λ q. any ts t; some = λ q. t; parts = t; small = small })

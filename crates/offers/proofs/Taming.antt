@@ -1,7 +1,8 @@
 -- The triples of a wave stay in range where those of its list are: what a run asks is met.
-use mathlib.Core.Path.{_≡_, refl, sym, ap}
-use mathlib.Core.Bool.{Bool, true, false, cond, true≢false}
+use mathlib.Core.Path.{_≡_, refl, sym, ap, _∙_}
+use mathlib.Core.Bool.{Bool, true, false, true≢false}
 use mathlib.Core.List.{List, [], _∷_, _++_}
+use mathlib.Core.Logic.{⊎-elim}
 use Prim.Native.Nat.{ℕ, zero, suc, _+_, _-_, _*_, _/_, _≤_, _<_, min, _^_}
 use native.Mathlib.Nat.{le-refl}
 use native.Mathlib.Omega.{arith}
@@ -9,14 +10,14 @@ use lib.Dec.{eqb}
 use lib.ListN.{length, getD, drop, drop-of-length-le}
 use lib.Seq.{drop-cons}
 use native.Mathlib.Numerals.{add-one}
+use Rattle.laws.proofs.Bools.{which}
 use Rattle.offers.specs.declared.Piece.{Piece}
 use Rattle.offers.specs.declared.Mode.{Mode}
 use Rattle.offers.specs.declared.Mode.the-variants.{Normal, Expand, Repeat}
 use Rattle.offers.specs.Pieces.{total}
-use Rattle.offers.specs.Waves.{noPiece, withLen, expand, fill, rounds, around, triplesOf, unchanged}
+use Rattle.offers.specs.Waves.{noPiece, withLen, expand, fill, rounds, triplesOf, unchanged}
 use Rattle.offers.specs.Sources.{startingAt, Glides, Tame, Short, Runs}
 use Rattle.offers.proofs.Starting.{some, part-le, long, no-length, start-gives, start-sound}
-use Rattle.offers.proofs.Sources.{clash}
 
 pub total-le : (ts : List Piece) → Tame ts → total ts ≤ 16777216 * length ts
 unfolding total
@@ -38,11 +39,10 @@ resized g n h = record { low = g .low; high = g .high; len = h; glide = g .glide
 tame-fill : (ts : List Piece) (n : ℕ) → Tame ts → Tame (fill ts n)
 unfolding fill
 tame-fill [] n h = tt
-tame-fill (t ∷ ts) n h = go (eqb n 0) (tame-fill ts (n - t .len) (h .1))
-  where
-    go : (b : Bool) → Tame (fill ts (n - t .len)) → Tame (cond b [] (withLen t (min (t .len) n) ∷ fill ts (n - t .len)))
-    go true k = tt
-    go false k = (resized (h .0) (min (t .len) n) (let a = h .0 .len in omega arith), k)
+tame-fill (t ∷ ts) n h =
+    let g = h .0 in
+    let short : min (t .len) n ≤ 2 ^ 24 = omega (arith, g .len) in
+    ⊎-elim (λ b. rw b tt) (λ b. rw b (resized g (min (t .len) n) short, tame-fill ts (n - t .len) (h .1))) (which (eqb n 0))
 
 tame-rounds : (k n : ℕ) (ts : List Piece) → Tame ts → Tame (rounds k ts n)
 unfolding rounds
@@ -57,13 +57,13 @@ tame-expand n tot r t (u ∷ us) h k p v =
     let f = q .0 in
     (resized (v .0) (t .len * n / tot) (omega arith), tame-expand n tot (r - t .len * n / tot) u us h (omega arith) (q .1) (v .1))
 
-abbrev isNormal : Mode → Bool
-isNormal Normal = true
-isNormal Expand = false
-isNormal Repeat = false
+abbrev asIs : Mode → Bool
+asIs Normal = true
+asIs Expand = false
+asIs Repeat = false
 
-clash₃ : Expand ≡ Normal → ⊥
-clash₃ e = true≢false (sym (ap isNormal e))
+made : (m : Mode) → asIs m ≡ false → m ≡ Normal → ⊥
+made m h e = true≢false (sym (ap asIs e) ∙ h)
 
 pub same-wave-normal : (ts : List Piece) (n : ℕ) → triplesOf Normal ts n ≡ ts
 unfolding triplesOf
@@ -77,35 +77,26 @@ same-wave Repeat ts n e = rw e
 
 -- ---- a wave
 module _ (ts : List Piece) (n : ℕ) (v : Tame ts) (few : length ts ≤ 2 ^ 10) (h : n ≤ 2 ^ 24) where
+  tame-expanded : (us : List Piece) → Tame us → 0 < total us → Tame (expand n (total us) n us)
+  tame-expanded [] w p = absurd (no-length p)
+  tame-expanded (u ∷ us) w p = tame-expand n (total (u ∷ us)) n u us p h (le-refl (n * total (u ∷ us))) w
+
   tame-wave : (m : Mode) → Tame (triplesOf m ts n)
   unfolding triplesOf
   tame-wave Normal = v
-  tame-wave Repeat = go (unchanged ts n) refl
-    where
-      go : (b : Bool) → unchanged ts n ≡ b → Tame (cond b ts (around ts n))
-      go true e = v
-      go false e = tame-rounds n n ts v
-  tame-wave Expand = go (unchanged ts n) refl
-    where
-      by : (us : List Piece) → Tame us → 0 < total us → Tame (expand n (total us) n us)
-      by [] w p = absurd (no-length p)
-      by (u ∷ us) w p = tame-expand n (total (u ∷ us)) n u us p h (le-refl (n * total (u ∷ us))) w
-
-      go : (b : Bool) → unchanged ts n ≡ b → Tame (cond b ts (expand n (total ts) n ts))
-      go true e = v
-      go false e = by ts v (some n (total ts) e .1)
+  tame-wave Repeat = ⊎-elim (λ e. rw e v) (λ e. rw e (tame-rounds n n ts v)) (which (unchanged ts n))
+  tame-wave Expand = ⊎-elim (λ e. rw e v) (λ e. rw e (tame-expanded ts v (some n (total ts) e .1))) (which (unchanged ts n))
 
   pub bound : total ts ≤ 2 ^ 40
   bound = omega (arith, total-le ts v)
 
   pub far-wave : (m : Mode) → total (triplesOf m ts n) ≤ 2 ^ 40
-  far-wave m = go (unchanged ts n) refl m
+  far-wave m = ⊎-elim (λ e. rw (same-wave m ts n e) bound) (λ e. filled m e) (which (unchanged ts n))
     where
-      go : (b : Bool) → unchanged ts n ≡ b → (m : Mode) → total (triplesOf m ts n) ≤ 2 ^ 40
-      go true e m = rw (same-wave m ts n e) bound
-      go false e Normal = rw (same-wave-normal ts n) bound
-      go false e Expand = rw (long Expand ts n e clash₃) (omega arith)
-      go false e Repeat = rw (long Repeat ts n e (λ q. clash (sym q))) (omega arith)
+      filled : (m : Mode) → unchanged ts n ≡ false → total (triplesOf m ts n) ≤ 2 ^ 40
+      filled Normal e = rw (same-wave-normal ts n) bound
+      filled Expand e = rw (long Expand ts n e (made Expand refl)) (omega arith)
+      filled Repeat e = rw (long Repeat ts n e (made Repeat refl)) (omega arith)
 
   pub runs : (m : Mode) → Runs (startingAt m ts n) ts
   runs m =

@@ -1,4 +1,5 @@
--- The same triples one after the other, with no list built: what a source has still to give.
+-- 01, "Waves", as the code goes: a source stands at a place of the triples, and what it has still to give is, by mode,
+-- what `triplesOf` builds as a list.
 use mathlib.Core.Path.{_≡_}
 use mathlib.Core.Bool.{Bool, true, false, cond}
 use mathlib.Core.List.{List, [], _∷_, _++_}
@@ -24,19 +25,19 @@ restBy Repeat ts s = fill (drop (s .at) ts) (s .rest) ++ around ts (s .rest - to
 abbrev pub restOf : List Piece → Source → List Piece
 restOf ts s = restBy (s .mode) ts s
 
--- is there one more
+-- whether it gives another
 abbrev pub moreBy : Mode → ℕ → Source → Bool
 moreBy Normal n s = ltb (s .at) n
 moreBy Expand n s = ltb (s .at) n
 moreBy Repeat n s = ltb 0 (s .rest)
 
--- the next one's length, of a triple of `len`, the last one or not
+-- how many steps the next one gets, whose own are `len`
 abbrev pub lengthBy : Mode → Source → ℕ → Bool → ℕ
 lengthBy Normal s len last = len
 lengthBy Expand s len last = cond last (s .rest) (len * s .whole / s .total)
 lengthBy Repeat s len last = min len (s .rest)
 
--- where it goes on
+-- the place from which the one after it comes
 abbrev pub afterBy : Mode → Bool → ℕ → ℕ
 afterBy Normal last next = next
 afterBy Expand last next = next
@@ -58,13 +59,13 @@ nextOf ts s =
     (record { piece = withLen (getD ts (s .at) noPiece) (nextLength ts s); source = sourceAfter (length ts) s (nextLength ts s); more = true })
     (record { piece = noPiece; source = s; more = false })
 
--- where a wave's source starts
+-- a wave's source before its first triple
 unfoldable pub startingAt : Mode → List Piece → ℕ → Source
 startingAt m ts n =
     cond (unchanged ts n) (record { mode = Normal; at = 0; rest = 0; whole = 0; total = 1 })
     (record { mode = m; at = 0; rest = n; whole = n; total = total ts })
 
--- ---- a source that is in order
+-- ---- what has to hold of a source, so that no step of it fails
 pub record Sound (ts : List Piece) (s : Source) : Type 0 where
   pub inside : s .at ≤ length ts
   pub turns : s .mode ≡ Repeat → s .at < length ts
@@ -83,11 +84,11 @@ abbrev pub Tame : List Piece → Type 0
 Tame [] = Unit {0}
 Tame (t ∷ ts) = Glides t × Tame ts
 
--- no triple's own length is too great to be multiplied
+-- a length times the steps of a wave is a number of 64 bits
 abbrev pub Short : List Piece → Type 0
 Short ts = (i : ℕ) → getD ts i noPiece .len < 2 ^ 32
 
--- what a run over a source asks
+-- and of one that a run goes over to its end
 pub record Runs (s : Source) (ts : List Piece) : Type 0 where
   pub sound : Sound ts s
   pub short : Short ts

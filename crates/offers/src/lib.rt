@@ -136,7 +136,7 @@ pub fn point(t: Piece, at: u64, j: u64, quarter: &[u32; 1025]) -> Offer
     }
 }
 
-// Whether a source of `count` triples has one more to give.
+// Whether a source over `count` triples gives another.
 fn has_more(s: Source, count: usize) -> bool
     ensures { λ r. ⌜ r ≡ moreBy (s .mode) count s ⌝ }
 {
@@ -148,7 +148,7 @@ fn has_more(s: Source, count: usize) -> bool
     }
 }
 
-// The next triple's length, its own being `len`.
+// The steps that the next triple gets, whose own are `len`.
 fn next_length(s: Source, len: u64, last: bool) -> u64
     requires { ⌜ (0 < s .total) × (s .whole < 2 ^ 32) × (len < 2 ^ 32) ⌝ }
     ensures { λ r. ⌜ r ≡ lengthBy (s .mode) s len last ⌝ }
@@ -165,7 +165,7 @@ fn next_length(s: Source, len: u64, last: bool) -> u64
     }
 }
 
-// Where a source goes on.
+// The place from which the triple after it comes.
 fn place_after(mode: Mode, last: bool, next: usize) -> usize
     ensures { λ r. ⌜ r ≡ afterBy mode last next ⌝ }
 {
@@ -260,7 +260,7 @@ pub fn next_triple(s: Source, numbers: &[i32]) -> Next
     }
 }
 
-// How many steps the triples of a list last.
+// The steps of all triples of a list.
 pub fn total_of(numbers: &[i32]) -> u64
     requires { ⌜ Fine (now numbers) ⌝ }
     ensures { λ r. ⌜ r ≡ total (triples (now (numbers .entry))) ⌝ }
