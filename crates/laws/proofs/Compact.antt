@@ -1,37 +1,40 @@
--- Laws of a list of records that is compacted in place, over any record type.
+-- A list of records compacted in place, over any record: what is kept of the first i stands in front, and behind it is what
+-- stood there (`compact`); then the places that fell vacant are cleared (`cleared`), and what comes is `putFirst`.
+--     kept-.., counted-.., compact-..   one record more, kept or left out
+--     cleared-..                        one place more cleared
+--     put-more, put-again, put-one      a counted list with more at its end
 use mathlib.Core.Bool.{Bool, true, false}
 use mathlib.Core.Path.{_≡_, refl, sym, ap, _∙_, subst}
 use mathlib.Core.List.{List, [], _∷_, _++_, append-assoc, append-nil}
-use Prim.Native.Nat.{ℕ, zero, suc, _+_, _*_, _-_, _≤_, _<_, max}
-use native.Mathlib.Nat.{not-suc-le-zero, le-of-suc-le-suc, zero-mul, suc-mul, add-comm, le-refl, le-trans, suc-sub-suc, sub-zero, zero-sub}
+use mathlib.Core.Logic.{⊎-elim}
+use Prim.Native.Nat.{ℕ, zero, suc, _+_, _-_, _≤_, _<_, max}
+use native.Mathlib.Nat.{add-zero, suc-sub-suc, sub-zero, zero-sub}
 use native.Mathlib.Numerals.{add-one}
 use native.Mathlib.Omega.{arith}
-use lib.ListN.{length, getD, set, take, drop, replicate, length-append, length-drop, length-replicate, take-append-drop, replicate-append-replicate}
-use lib.Seq.{drop-cons, take-suc, set-at, append-snoc, getD-append-add, getD-drop, length-take-le, set-split, drop-append-add, drop-drop, take-append-seam}
-use Rattle.laws.specs.Lists.{unless, without, putFirst}
-
-vacated : (n a k : ℕ) → (n - a) - k ≡ n - (a + k)
-vacated n a k = omega arith
-
-reached : (n a k : ℕ) → max n a + (k - (n - a)) ≡ max n (a + k)
-reached n a k = omega arith
+use lib.ListN.{length, getD, set, take, drop, replicate, length-append, length-replicate, take-append-drop, replicate-append-replicate}
+use lib.Seq.{drop-cons, take-suc, set-at, set-getD, getD-drop, length-take-le, set-split, drop-append-add, drop-drop, take-append-seam}
+use Rattle.laws.specs.Lists.{without, putFirst}
+use Rattle.laws.proofs.Bools.{which}
 
 module _ {R : Type 0} where
-  unless-append : (t : Bool) (r : R) (x y b : List R) → x ≡ y ++ b → unless t r x ≡ unless t r y ++ b
-  unless-append true r x y b e = e
-  unless-append false r x y b e = ap (λ (l : List R). r ∷ l) e
-
-  length-unless : (t : Bool) (r : R) (x : List R) (n : ℕ) → length x ≤ n → length (unless t r x) ≤ suc n
-  length-unless true r x n h = omega arith
-  length-unless false r x n h = omega arith
-
   without-append : (out : R → Bool) (a b : List R) → without out (a ++ b) ≡ without out a ++ without out b
   without-append out [] b = refl
-  without-append out (r ∷ a) b = unless-append (out r) r _ _ _ (without-append out a b)
+  without-append out (r ∷ a) b =
+      let rest = without-append out a b in
+      ⊎-elim (λ h. rw h rest) (λ h. rw h (ap (λ l. r ∷ l) rest)) (which (out r))
 
   pub length-without : (out : R → Bool) (a : List R) → length (without out a) ≤ length a
-  length-without out [] = le-refl 0
-  length-without out (r ∷ a) = length-unless (out r) r (without out a) (length a) (length-without out a)
+  length-without out [] = omega arith
+  length-without out (r ∷ a) =
+      let rest = length-without out a in
+      ⊎-elim (λ h. rw h (omega arith)) (λ h. rw h (omega arith)) (which (out r))
+
+  -- behind p the list is as it was
+  past : (l p : List R) (j : ℕ) → length p ≤ j → drop j (p ++ drop (length p) l) ≡ drop j l
+  past l p j h =
+      let n = j - length p in
+      let here : length p + n ≡ j = omega arith in
+      subst (λ k. drop k (p ++ drop (length p) l) ≡ drop k l) here (drop-append-add p (drop (length p) l) n ∙ drop-drop n (length p) l)
 
   module _ (z : R) (l : List R) where
     -- p, then z up to k, then what stood there
@@ -40,16 +43,19 @@ module _ {R : Type 0} where
 
     pub cleared-none : (n : ℕ) → n ≤ length l → l ≡ cleared (take n l) n
     cleared-none n h =
-        let e = length-take-le n l h in
-        let s : n - length (take n l) ≡ 0 = omega arith in
-        rw s (sym (take-append-drop n l))
+        let none : n - length (take n l) ≡ 0 = (let e = length-take-le n l h in omega arith) in
+        rw none (sym (take-append-drop n l))
 
     pub cleared-more : (p : List R) (k : ℕ) → length p ≤ k → k < length l → set (cleared p k) k z ≡ cleared p (k + 1)
     cleared-more p k h kl =
-        let n = length-replicate (k - length p) z in
-        let m = length-append p (replicate (k - length p) z) in
-        let s : k + 1 - length p ≡ (k - length p) + 1 = omega arith in
-        rw (← append-assoc, drop-cons l k z kl, set-at (p ++ replicate (k - length p) z) _ _ z k (omega arith), s, ← replicate-append-replicate (k - length p) 1 z, append-assoc, append-assoc, add-one)
+        let n = k - length p in
+        let front = p ++ replicate n z in
+        let long : length front ≡ k = length-append p (replicate n z) ∙ (let m = length-replicate n z in omega arith) in
+        let more : k + 1 - length p ≡ n + 1 = omega arith in
+        ap (λ x. set x k z) (sym (append-assoc p (replicate n z) (drop k l)) ∙ ap (λ x. front ++ x) (drop-cons l k z kl))
+        ∙ set-at front (getD l k z) (drop (suc k) l) z k long
+        ∙ append-assoc p (replicate n z) (z ∷ drop (suc k) l)
+        ∙ rw (more, ← replicate-append-replicate n 1 z, append-assoc (replicate n z) (z ∷ []) (drop (k + 1) l), add-one)
 
   module _ (out : R → Bool) (z : R) (l : List R) where
     -- what is kept of the first i
@@ -61,7 +67,7 @@ module _ {R : Type 0} where
     compact i = kept i ++ drop (length (kept i)) l
 
     pub kept-le : (i : ℕ) → i ≤ length l → length (kept i) ≤ i
-    kept-le i h = let a = length-without out (take i l) in let b = length-take-le i l h in omega arith
+    kept-le i h = omega (arith, length-without out (take i l), length-take-le i l h)
 
     pub kept-drop : (i : ℕ) → i < length l → out (getD l i z) ≡ true → kept (i + 1) ≡ kept i
     kept-drop i h e = rw (add-one, take-suc l i z h, without-append, e, append-nil)
@@ -77,38 +83,40 @@ module _ {R : Type 0} where
 
     pub compact-read : (i : ℕ) → i < length l → getD (compact i) i z ≡ getD l i z
     compact-read i h =
-        let a = kept-le i (omega arith) in
-        let e : length (kept i) + (i - length (kept i)) ≡ i = omega arith in
-        subst (λ (n : ℕ). getD (compact i) n z ≡ getD l n z) e
-        (getD-append-add (kept i) (drop (length (kept i)) l) (i - length (kept i)) z ∙ getD-drop (length (kept i)) l (i - length (kept i)) z)
+        let first : (x : List R) → getD (drop i x) 0 z ≡ getD x i z = λ x. getD-drop i x 0 z ∙ ap (λ n. getD x n z) (add-zero i) in
+        sym (first (compact i)) ∙ ap (λ x. getD x 0 z) (past l (kept i) i (kept-le i (omega arith))) ∙ first l
 
     pub compact-drop : (i : ℕ) → i < length l → out (getD l i z) ≡ true → compact (i + 1) ≡ compact i
-    compact-drop i h e = ap (λ (x : List R). x ++ drop (length x) l) (kept-drop i h e)
+    compact-drop i h e = rw (kept-drop i h e)
 
     pub compact-keep : (i : ℕ) → i < length l → out (getD l i z) ≡ false → set (compact i) (length (kept i)) (getD l i z) ≡ compact (i + 1)
     compact-keep i h e =
-        let a = kept-le i (omega arith) in
-        rw (drop-cons l (length (kept i)) z (omega arith), set-at (kept i) _ _ (getD l i z) (length (kept i)) refl)
-        (rw (kept-keep i h e, length-append, append-assoc, add-one))
+        let n = length (kept i) in
+        let fits : n < length l = (let k = kept-le i (omega arith) in omega arith) in
+        ap (λ x. set (kept i ++ x) n (getD l i z)) (drop-cons l n z fits)
+        ∙ set-at (kept i) (getD l n z) (drop (suc n) l) (getD l i z) n refl
+        ∙ rw (kept-keep i h e, length-append, append-assoc, add-one)
 
     -- what was compacted and then cleared
     pub compact-clear : (n : ℕ) → n ≤ length l → cleared z (compact n) (take (length (kept n)) (compact n)) n ≡ putFirst z n (kept n) l
     compact-clear n h =
-        let a = kept-le n h in
-        let m : max n (length (kept n)) ≡ n = omega arith in
-        let e : length (kept n) + (n - length (kept n)) ≡ n = omega arith in
-        let d : drop n (compact n) ≡ drop n l =
-        subst (λ (k : ℕ). drop k (compact n) ≡ drop k l) e
-        (drop-append-add (kept n) (drop (length (kept n)) l) (n - length (kept n)) ∙ drop-drop (n - length (kept n)) (length (kept n)) l) in
-        rw (take-append-seam (kept n) (drop (length (kept n)) l), d, m)
+        let k = kept-le n h in
+        let most : max n (length (kept n)) ≡ n = omega arith in
+        rw (take-append-seam (kept n) (drop (length (kept n)) l), past l (kept n) n k, most)
+
+  -- a list that is put and no shorter than what counted: no place falls vacant
+  put-longer : (z : R) (n : ℕ) (now l : List R) → n ≤ length now → putFirst z n now l ≡ now ++ drop (length now) l
+  put-longer z n now l h =
+      let none : n - length now ≡ 0 = omega arith in
+      let most : max n (length now) ≡ length now = omega arith in
+      rw (none, most)
 
   -- one more, at the end
   pub put-more : (z e : R) (n : ℕ) (l : List R) → n < length l → set l n e ≡ putFirst z n (take n l ++ (e ∷ [])) l
   put-more z e n l h =
-      let a : length (take n l ++ (e ∷ [])) ≡ n + 1 = length-append (take n l) (e ∷ []) ∙ ap (λ (k : ℕ). k + 1) (length-take-le n l (omega arith)) in
-      let b : n - (n + 1) ≡ 0 = omega arith in
-      let d : max n (n + 1) ≡ n + 1 = omega arith in
-      rw (set-split l n e h, a, b, d, append-assoc, add-one)
+      let long : length (take n l ++ (e ∷ [])) ≡ n + 1 = length-append (take n l) (e ∷ []) ∙ (let k = length-take-le n l (omega arith) in omega arith) in
+      set-split l n e h
+      ∙ sym (put-longer z n (take n l ++ (e ∷ [])) l (omega arith) ∙ rw (long, append-assoc (take n l) (e ∷ []) (drop (n + 1) l), add-one))
 
   drop-replicate : (k m : ℕ) (z : R) (y : List R) → drop k (replicate m z ++ y) ≡ replicate (m - k) z ++ drop (k - m) y
   drop-replicate zero m z y = rw (sub-zero, zero-sub)
@@ -118,19 +126,16 @@ module _ {R : Type 0} where
   -- a list that was put first, and is then put again with more at its end
   pub put-again : (z : R) (n : ℕ) (rs more all : List R) → putFirst z (length rs) (rs ++ more) (putFirst z n rs all) ≡ putFirst z n (rs ++ more) all
   put-again z n rs more all =
-      let l = length-append rs more in
       let k = length more in
-      let a : length rs - length (rs ++ more) ≡ 0 = omega arith in
-      let b : max (length rs) (length (rs ++ more)) ≡ length rs + k = omega arith in
-      let c : (n - length rs) - k ≡ n - length (rs ++ more) = rw l (vacated n (length rs) k) in
-      let d : max n (length rs) + (k - (n - length rs)) ≡ max n (length (rs ++ more)) = rw l (reached n (length rs) k) in
-      let x : drop (length rs + k) (putFirst z n rs all) ≡ replicate (n - length (rs ++ more)) z ++ drop (max n (length (rs ++ more))) all =
-      drop-append-add rs (replicate (n - length rs) z ++ drop (max n (length rs)) all) k
+      let long = length-append rs more in
+      let vacant : (n - length rs) - k ≡ n - length (rs ++ more) = omega arith in
+      let reached : max n (length rs) + (k - (n - length rs)) ≡ max n (length (rs ++ more)) = omega arith in
+      put-longer z (length rs) (rs ++ more) (putFirst z n rs all) (omega arith)
+      ∙ ap (λ (y : List R). (rs ++ more) ++ y)
+      (ap (λ (m : ℕ). drop m (putFirst z n rs all)) long
+      ∙ drop-append-add rs (replicate (n - length rs) z ++ drop (max n (length rs)) all) k
       ∙ drop-replicate k (n - length rs) z (drop (max n (length rs)) all)
-      ∙ rw (drop-drop, c, d) in
-      ap (λ (m : ℕ). (rs ++ more) ++ (replicate m z ++ drop (max (length rs) (length (rs ++ more))) (putFirst z n rs all))) a
-      ∙ ap (λ (m : ℕ). (rs ++ more) ++ drop m (putFirst z n rs all)) b
-      ∙ ap (λ (y : List R). (rs ++ more) ++ y) x
+      ∙ rw (drop-drop, vacant, reached))
 
   -- one more put at the end of a list that was put first
   pub put-one : (z e : R) (n : ℕ) (rs all : List R) → putFirst z (length rs) (take (length rs) (putFirst z n rs all) ++ (e ∷ [])) (putFirst z n rs all) ≡ putFirst z n (rs ++ (e ∷ [])) all
@@ -144,6 +149,4 @@ module _ {R : Type 0} where
 
   -- a record put where it stands
   pub set-own : (z : R) (l : List R) (i : ℕ) → set l i (getD l i z) ≡ l
-  set-own z [] i = refl
-  set-own z (x ∷ l) zero = refl
-  set-own z (x ∷ l) (suc i) = ap (λ (r : List R). x ∷ r) (set-own z l i)
+  set-own z l i = set-getD l i z

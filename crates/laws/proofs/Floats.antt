@@ -1,15 +1,14 @@
 -- How large a float expression can get. `Within x n`: x is finite, and at most n in size. A rounding keeps a whole bound up to 2 ^ prec,
 -- since such an n is a value of the format and rounding keeps the order.
-use mathlib.Core.Path.{_≡_, refl, sym, ap, _∙_, subst}
-use mathlib.Core.Logic.{inl, inr}
+use mathlib.Core.Path.{_≡_, refl, sym, ap, _∙_}
 use mathlib.Core.Bool.{Bool, true, false, cond, _&&_, _||_, Bool·beq, true≢false}
 use Prim.Native.Nat.{ℕ, zero, suc, _+_, _-_, _*_, _/_, _^_, _≤_, _<_, min}
-use native.Mathlib.Nat.{mul-lt-mul-of-pos-right, le-trans, le-of-eq, le-refl, le-of-lt, lt-irrefl, mul-one, one-mul, zero-mul, mul-comm, mul-assoc, mul-left-comm, mul-right-comm, add-mul, mul-pos, mul-le-mul, mul-le-mul-right, le-of-mul-le-mul-right, div-le-of-le-mul, mul-mul-mul-comm, zero-lt-suc}
+use native.Mathlib.Nat.{le-trans, le-of-eq, le-of-lt, mul-one, one-mul, zero-mul, mul-comm, mul-assoc, mul-right-comm, add-mul, mul-pos, mul-le-mul, mul-le-mul-right, le-of-mul-le-mul-right, div-le-of-le-mul, mul-mul-mul-comm, zero-lt-suc}
 use native.Mathlib.Omega.{arith}
-use lib.Dec.{T, ltb, leb, eqb, ltb→lt, lt→ltb, eqb→eq, eqb·suc-zero, lit<, lit≤}
+use lib.Dec.{T, ltb, eqb, ltb→lt, eqb→eq, eqb·suc-zero}
 use lib.IntN.{ℤ, pos, negsuc, negℤ, natAbs}
 use lib.Signed.{mag}
-use lib.Ieee.{Float, nan, inf, fin, Format, binary32, ofBits, neg, sub, prec, emax, low, up, down, unlike, odd, units, round, sum, add, mul, div, ofInt, toSigned, le, lt, eq}
+use lib.Ieee.{Float, nan, inf, fin, Format, prec, emax, low, up, down, unlike, odd, units, round, sum, add, mul, div, ofInt, toSigned, le, lt, eq}
 use lib.Ieee.Fits.{up-pos, down-pos, round-is}
 use lib.Ieee.Exact.{HasValue}
 use lib.Ieee.Back.{round-whole}
@@ -156,38 +155,8 @@ toSigned-within h (fin s m e) n p =
     either-mag s (min (m * up e / down e) (2 ^ h)) (min (m * up e / down e) (2 ^ h - 1)) n (omega arith) (omega arith)
 
 -- ---- what `truncating_f32_to_i64` asks
-or-l : (a b : Bool) → T a → T (a || b)
-or-l true b t = tt
-or-l false b t = absurd t
-
-pub in-i64 : (x : Float) (n : ℕ) → Within x n → n < 2 ^ 63 → T (le (fin true 1 (pos 63)) x) × T (lt x (fin false 1 (pos 63)))
-unfolding le lt eq
-in-i64 nan n p h = absurd p
-in-i64 (inf s) n p h = absurd p
-in-i64 (fin true m e) n p h =
-    let d = down-pos e in
-    let k : n * down e < 2 ^ 63 * down e = mul-lt-mul-of-pos-right h d in
-    (or-l (ltb (m * up e * 1) (1 * 2 ^ 63 * down e)) _ (lt→ltb (m * up e * 1) (1 * 2 ^ 63 * down e) (omega arith)), lt→ltb 0 (m * up e * 1 + 1 * 2 ^ 63 * down e) (omega arith))
-in-i64 (fin false m e) n p h =
-    let d = down-pos e in
-    let k : n * down e < 2 ^ 63 * down e = mul-lt-mul-of-pos-right h d in
-    (or-l (ltb 0 (1 * 2 ^ 63 * down e + m * up e * 1)) _ (lt→ltb 0 (1 * 2 ^ 63 * down e + m * up e * 1) (omega arith)), lt→ltb (m * up e * 1) (1 * 2 ^ 63 * down e) (omega arith))
 
 -- ---- negation and difference
-pub neg-within : (x : Float) (n : ℕ) → Within x n → Within (neg x) n
-unfolding neg
-neg-within nan n h = h
-neg-within (inf s) n h = h
-neg-within (fin s m e) n h = h
-
-pub sub-within : (f : Format) (x y : Float) (a b : ℕ) → Within x a → Within y b → a + b ≤ 2 ^ prec f → Within (sub f x y) (a + b)
-unfolding sub
-sub-within f x y a b p q h = add-within f x (neg y) a b p (neg-within y b q) h
-
--- a literal: 1.5 is at most 2
-literal : Within (ofBits binary32 0x3fc0_0000) 2
-unfolding ofBits
-literal = lit≤ tt
 
 -- a bound may be widened
 pub within-more : (x : Float) {n m : ℕ} → Within x n → n ≤ m → Within x m

@@ -2,15 +2,14 @@
 --     From, passed-from, failed-from, ended-from   the test of what stands behind a place: what is left decides
 --     Rest, one-alone, one-twice, none-left        each key against those behind it: what is left decides
 --     gathered, gathered-none, gathered-more       ks laid over l from place n on, one more at a time
-use mathlib.Core.Path.{_≡_, refl, sym, ap, ap₂, _∙_}
-use mathlib.Core.Bool.{Bool, true, false, not, _&&_}
+use mathlib.Core.Path.{_≡_, sym, ap, ap₂, _∙_}
+use mathlib.Core.Bool.{Bool, true, false, _&&_}
 use mathlib.Core.List.{List, [], _∷_, _++_, map, append-assoc, map-append}
-use Prim.Native.Nat.{ℕ, zero, suc, _+_, _-_, _≤_, _<_}
+use Prim.Native.Nat.{ℕ, suc, _+_, _-_, _≤_, _<_}
 use native.Mathlib.Numerals.{add-one}
 use native.Mathlib.Omega.{arith}
-use lib.Dec.{eqb}
 use lib.ListN.{length, getD, set, take, drop, length-append, length-take, length-drop, take-append-drop, drop-of-length-le}
-use lib.Seq.{drop-cons, take-suc, set-at, append-snoc, length-take-le, take-append-seam}
+use lib.Seq.{drop-cons, take-suc, set-at, length-take-le, take-append-seam}
 use Rattle.laws.specs.Lists.{all}
 use Rattle.laws.specs.Keys.{absent, distinct}
 

@@ -8,10 +8,6 @@ pub mod Rows
 pub mod Compact
 pub mod Taking
 pub mod Order
-pub mod Sorting
-pub mod Reversing
-pub mod Merging
-pub mod Stable
 pub mod Ranges
 pub mod Sizes
 pub mod Ends

@@ -1,10 +1,10 @@
 -- Signed numbers by size, as the stable sort asks it of an order: one way only, and `not after` goes through.
-use mathlib.Core.Bool.{Bool, true, false}
-use mathlib.Core.Path.{_≡_, refl, sym, ap, _∙_}
+use mathlib.Core.Bool.{true, false}
+use mathlib.Core.Path.{_≡_, refl}
 use native.Mathlib.Omega.{arith}
 use lib.IntN.{ℤ, pos, negsuc}
 use lib.Signed.{ltZ, leZ}
-use borrow.Author.Tests.{ltb-true, ltb-false, lt-ltb, le-ltb, leb-true, lt-leb}
+use borrow.Author.Tests.{ltb-true, ltb-false, le-ltb, leb-true, lt-leb}
 
 pub ltZ-asym : (a b : ℤ) → ltZ a b ≡ true → ltZ b a ≡ false
 ltZ-asym (pos a) (pos b) h = le-ltb b a (let k = ltb-true a b h in omega arith)

@@ -1,11 +1,16 @@
--- Laws of a flat list that is read as records of w numbers, over any element type, record type and width.
-use mathlib.Core.Path.{_≡_, refl, sym, ap, _∙_, subst}
+-- A flat list read as records of w numbers, over any element, record and width. One induction carries it: a list of whole
+-- records and another behind it are read one after the other (`rows-append`); storing over a record is a cut on both sides of it.
+--     length-rows, getD-rows   how many, and where record i begins
+--     rows-splice              w numbers stored over record i
+--     length-flat, rows-flat, flat-rows   to numbers and back
+--     sets-all                 a whole list stored over
+use mathlib.Core.Path.{_≡_, refl, sym, ap, _∙_}
 use mathlib.Core.List.{List, [], _∷_, _++_, append-assoc, append-nil}
 use Prim.Native.Nat.{ℕ, zero, suc, _+_, _*_, _-_, _≤_, _<_}
-use native.Mathlib.Nat.{not-suc-le-zero, le-of-suc-le-suc, zero-mul, suc-mul, add-comm, zero-add, suc-add}
+use native.Mathlib.Nat.{not-suc-le-zero, le-of-suc-le-suc, le-of-eq, le-of-lt, le-trans, mul-le-mul-right, zero-mul, suc-mul, add-comm, zero-add, suc-add}
 use native.Mathlib.Omega.{arith}
 use lib.ListN.{length, getD, set, take, drop, length-append, length-drop, take-append-drop, drop-of-length-le}
-use lib.Seq.{drop-drop, take-add, drop-at, length-take-le, drop-append-le, sets, sets-eq}
+use lib.Seq.{drop-drop, take-add, drop-at, length-take-le, drop-append-le, set-at, sets, sets-eq}
 use Rattle.laws.specs.Rows.{rows, flat}
 
 suc-times : (i w : ℕ) → suc i * w ≡ w + i * w
@@ -24,45 +29,34 @@ module _ {A R : Type 0} (w : ℕ) (dec : List A → R) where
 
   -- dec looks at no more than w numbers
   module _ (front : (p m : List A) → length p ≡ w → dec (p ++ m) ≡ dec p) where
-    front-take : (l y : List A) → w ≤ length l → dec (take w l ++ y) ≡ dec l
-    front-take l y h =
-        front (take w l) y (length-take-le w l h)
-        ∙ sym (front (take w l) (drop w l) (length-take-le w l h))
-        ∙ ap dec (take-append-drop w l)
+    of-front : (x y : List A) → w ≤ length x → dec (x ++ y) ≡ dec x
+    of-front x y h =
+        let p = take w x in
+        let first : (m : List A) → dec (p ++ m) ≡ dec p = λ m. front p m (length-take-le w x h) in
+        let here : x ≡ p ++ drop w x = sym (take-append-drop w x) in
+        ap (λ l. dec (l ++ y)) here ∙ ap dec (append-assoc p (drop w x) y) ∙ first (drop w x ++ y) ∙ sym (ap dec here ∙ first (drop w x))
 
-    -- w numbers stored over record i
-    pub rows-splice : (n i : ℕ) (l v : List A) → length v ≡ w → i < n → n * w ≤ length l → rows w dec n (take (i * w) l ++ (v ++ drop w (drop (i * w) l))) ≡ set (rows w dec n l) i (dec v)
-    rows-splice zero i l v lv h r = absurd (not-suc-le-zero h)
-    rows-splice (suc n) zero l v lv h r =
-        rw (zero-mul, front v (drop w l) lv, drop-at v (drop w l) w lv)
-    rows-splice (suc n) (suc i) l v lv h r =
-        let r′ : w + n * w ≤ length l = rw suc-times at r in
-        let rest : List A = take (i * w) (drop w l) ++ (v ++ drop w (drop (i * w) (drop w l))) in
-        let e : take (suc i * w) l ++ (v ++ drop w (drop (suc i * w) l)) ≡ take w l ++ rest =
-        rw (suc-times, take-add w (i * w) l, append-assoc, ← drop-drop (i * w) w l) in
-        rw e
-        (ap (λ (x : R). x ∷ rows w dec n (drop w (take w l ++ rest))) (front-take l rest (omega arith))
-        ∙ ap (λ (x : List A). dec l ∷ rows w dec n x) (drop-at (take w l) rest w (length-take-le w l (omega arith)))
-        ∙ ap (λ (x : List R). dec l ∷ x) (rows-splice n i (drop w l) v lv (le-of-suc-le-suc h) (simp length-drop (omega arith))))
-
-    front-append : (x y : List A) → w ≤ length x → dec (x ++ y) ≡ dec x
-    front-append x y h =
-        let t : take w x ++ (drop w x ++ y) ≡ x ++ y = sym (append-assoc (take w x) (drop w x) y) ∙ ap (λ (l : List A). l ++ y) (take-append-drop w x) in
-        sym (ap dec t) ∙ front-take x (drop w x ++ y) h
-
-    -- a list of whole records, and another after it
     pub rows-append : (n m : ℕ) (x y : List A) → length x ≡ n * w → rows w dec (n + m) (x ++ y) ≡ rows w dec n x ++ rows w dec m y
     rows-append zero m x y h =
-        let n : length x ≡ 0 = h ∙ zero-mul w in
-        let e : x ≡ [] = drop-of-length-le x {i = 0} (omega arith) in
-        rw (e, zero-add)
+        let none : x ≡ [] = drop-of-length-le x {i = 0} (le-of-eq (h ∙ zero-mul w)) in
+        rw (none, zero-add)
     rows-append (suc n) m x y h =
-        let h′ : length x ≡ w + n * w = h ∙ suc-times n w in
-        let l : length (drop w x) ≡ n * w = simp length-drop (omega arith) in
-        ap (λ (k : ℕ). rows w dec k (x ++ y)) (suc-add n m)
-        ∙ ap (λ (r : R). r ∷ rows w dec (n + m) (drop w (x ++ y))) (front-append x y (omega arith))
-        ∙ ap (λ (r : List A). dec x ∷ rows w dec (n + m) r) (drop-append-le w x y (omega arith))
-        ∙ ap (λ (r : List R). dec x ∷ r) (rows-append n m (drop w x) y l)
+        let long : length x ≡ w + n * w = h ∙ suc-times n w in
+        let rest = rows-append n m (drop w x) y (simp length-drop (omega arith)) in
+        rw (suc-add, of-front x y (omega arith), drop-append-le w x y (omega arith), rest)
+
+    pub rows-splice : (n i : ℕ) (l v : List A) → length v ≡ w → i < n → n * w ≤ length l → rows w dec n (take (i * w) l ++ (v ++ drop w (drop (i * w) l))) ≡ set (rows w dec n l) i (dec v)
+    rows-splice n i l v lv h r =
+        let m = n - suc i in
+        let n-is : n ≡ i + suc m = omega arith in
+        let fits : i * w ≤ length l = le-trans (mul-le-mul-right w (le-of-lt h)) r in
+        let before = take (i * w) l in
+        let after = drop (i * w) l in
+        let long : length before ≡ i * w = length-take-le (i * w) l fits in
+        let cut : rows w dec (i + suc m) l ≡ rows w dec i before ++ rows w dec (suc m) after =
+        ap (rows w dec (i + suc m)) (sym (take-append-drop (i * w) l)) ∙ rows-append i (suc m) before after long in
+        rw (n-is, rows-append i (suc m) before (v ++ drop w after) long, cut, front v (drop w after) lv, drop-at v (drop w after) w lv)
+        (sym (set-at (rows w dec i before) (dec after) (rows w dec m (drop w after)) (dec v) i (length-rows i before)))
 
 -- to records and back
 module _ {A R : Type 0} (w : ℕ) (dec : List A → R) (enc : R → List A) (len : (r : R) → length (enc r) ≡ w) where

@@ -1,13 +1,15 @@
--- The two loops that compact a list of records in place and clear what is left, over any way to read a slice as records.
+-- The loops that compact a list of records in place and clear what is left, over any way to read a slice as records.
+--     Compacting, step-drop, step-keep, closed   the first: each record is left out or kept
+--     Clearing, clear-none, clear-more           the second
 use mathlib.Core.Bool.{Bool, true, false}
-use mathlib.Core.Path.{_≡_, refl, sym, ap, _∙_, subst}
-use mathlib.Core.List.{List, [], _∷_, _++_}
+use mathlib.Core.Path.{_≡_, refl, sym, ap, _∙_}
+use mathlib.Core.List.{List}
 use Prim.Native.Nat.{ℕ, _+_, _-_, _≤_, _<_}
 use native.Mathlib.Omega.{arith}
-use lib.ListN.{length, getD, set, take, drop, length-take}
+use lib.ListN.{length, getD, set, take, length-take}
 use lib.Seq.{length-take-le}
 use Rattle.laws.specs.Lists.{without, putFirst}
-use Rattle.laws.proofs.Compact.{kept, kept-le, kept-drop, compact, compact-read, compact-drop, compact-keep, counted-drop, counted-keep, cleared, cleared-none, cleared-more, cleared-put, compact-clear}
+use Rattle.laws.proofs.Compact.{kept, kept-le, compact, compact-read, compact-drop, compact-keep, counted-drop, counted-keep, cleared, cleared-none, cleared-more, cleared-put, compact-clear}
 
 module _ {A R : Type 0} (rd : List A → List R) (z : R) where
   -- the first i of l₀ are passed, and l has the n that are kept of them in front
@@ -29,46 +31,43 @@ module _ {A R : Type 0} (rd : List A → List R) (z : R) where
     n-le = let a = kept-le out z (rd l₀) i (omega arith) in omega arith
 
     module _ (inside : i < count) (e : R) (read : e ≡ getD (rd l) i z) (t : Bool) (asked : t ≡ out e) where
+      -- what was read is what stood there at the beginning
+      own : e ≡ getD (rd l₀) i z
+      own = read ∙ ap (λ (x : List R). getD x i z) (v .sofar) ∙ compact-read out z (rd l₀) i (omega arith)
+
       told : out (getD (rd l₀) i z) ≡ t
-      told = sym (asked ∙ ap out (read ∙ ap (λ (x : List R). getD x i z) (v .sofar) ∙ compact-read out z (rd l₀) i (omega arith)))
+      told = ap out (sym own) ∙ sym asked
 
       pub step-drop : t ≡ true → Compacting out l₀ l count (i + 1) n
       step-drop y =
+          let drops = told ∙ y in
+          let at : i < length (rd l₀) = omega arith in
           record {
             within = omega arith;
             long = v .long;
-            counted = counted-drop out z (rd l₀) i n (omega arith) (told ∙ y) (v .counted);
-            sofar = v .sofar ∙ sym (compact-drop out z (rd l₀) i (omega arith) (told ∙ y));
+            counted = counted-drop out z (rd l₀) i n at drops (v .counted);
+            sofar = v .sofar ∙ sym (compact-drop out z (rd l₀) i at drops);
           }
 
       pub step-keep : t ≡ false → (l′ : List A) → length l′ ≡ length l → rd l′ ≡ set (rd l) n e → Compacting out l₀ l′ count (i + 1) (n + 1)
       step-keep y l′ le w =
-          let e′ : e ≡ getD (rd l₀) i z = read ∙ ap (λ (x : List R). getD x i z) (v .sofar) ∙ compact-read out z (rd l₀) i (omega arith) in
+          let keeps = told ∙ y in
+          let at : i < length (rd l₀) = omega arith in
           record {
             within = omega arith;
             long = le ∙ v .long;
-            counted = counted-keep out z (rd l₀) i n (omega arith) (told ∙ y) (v .counted);
-            sofar = w ∙ rw (v .sofar, e′, v .counted) (compact-keep out z (rd l₀) i (omega arith) (told ∙ y));
+            counted = counted-keep out z (rd l₀) i n at keeps (v .counted);
+            sofar = w ∙ rw (v .sofar, own, v .counted) (compact-keep out z (rd l₀) i at keeps);
           }
 
-    pub finish : count ≤ i → (l′ : List A) (k : ℕ) → count ≤ k → Clearing l l′ count n k → rd l′ ≡ putFirst z count (without out (take count (rd l₀))) (rd l₀)
-    finish past l′ k done w =
-        let ei : i ≡ count = omega arith in
-        let ek : k ≡ count = omega arith in
-        let c : n ≡ length (kept out z (rd l₀) count) = rw ei at (v .counted) in
-        let s : rd l ≡ compact out z (rd l₀) count = rw ei at (v .sofar) in
-        let q : rd l′ ≡ cleared z (rd l) (take n (rd l)) count = rw ek at (w .sofar) in
-        q ∙ rw (s, c) (compact-clear out z (rd l₀) count fit)
-
-    -- the same where what is left is cleared by a call
+    -- all are passed, and a call clears what is left
     pub closed : count ≤ i → (l′ : List A) → rd l′ ≡ putFirst z count (take n (rd l)) (rd l) → rd l′ ≡ putFirst z count (without out (take count (rd l₀))) (rd l₀)
     closed past l′ w =
-        let ei : i ≡ count = omega arith in
-        let c : n ≡ length (kept out z (rd l₀) count) = rw ei at (v .counted) in
-        let s : rd l ≡ compact out z (rd l₀) count = rw ei at (v .sofar) in
-        let le = n-le in
-        let short : length (take n (rd l)) ≤ count = simp length-take (omega arith) in
-        w ∙ sym (cleared-put z (rd l) (take n (rd l)) count short) ∙ rw (s, c) (compact-clear out z (rd l₀) count fit)
+        let end : i ≡ count = omega arith in
+        let short : length (take n (rd l)) ≤ count = simp length-take (let k = n-le in omega arith) in
+        w
+        ∙ sym (cleared-put z (rd l) (take n (rd l)) count short)
+        ∙ rw (rw end at (v .sofar), rw end at (v .counted)) (compact-clear out z (rd l₀) count fit)
 
   pub clear-none : (l : List A) (count n : ℕ) → n ≤ count → n ≤ length (rd l) → Clearing l l count n n
   clear-none l count n h m = record { from = omega arith; within = h; long = refl; sofar = cleared-none z (rd l) n m }

@@ -4,7 +4,7 @@
 --     failed     one was not: the answer is false
 --     ended      none is left: the answer is true
 -- The same for the first n of a list (`counted`): the element at i of `take n l` is that of l.
-use mathlib.Core.Path.{_≡_, refl, sym, ap, _∙_}
+use mathlib.Core.Path.{_≡_, sym, ap, _∙_}
 use mathlib.Core.Bool.{Bool, true, false, not, _&&_, _||_}
 use borrow.Author.Tests.{not-true, not-false, le-leb, lt-leb}
 use mathlib.Core.List.{List, [], _∷_}
