@@ -1,90 +1,85 @@
--- How large a float expression can get. `Within x n`: x is finite, and at most n in size. A rounding keeps a whole bound up to 2 ^ prec,
--- since such an n is a value of the format and rounding keeps the order.
-use mathlib.Core.Path.{_≡_, refl, sym, ap, _∙_}
+-- How large a float expression can get. `Within x n`: x is finite and at most n in size. Rounding keeps a whole bound up to
+-- 2 ^ prec, since such an n is a value of the format and rounding keeps the order (`round-within`); the operations round once each.
+use mathlib.Core.Path.{_≡_, refl, sym, ap, _∙_, subst}
 use mathlib.Core.Bool.{Bool, true, false, cond, _&&_, _||_, Bool·beq, true≢false}
+use mathlib.Core.Logic.{⊎-elim}
 use Prim.Native.Nat.{ℕ, zero, suc, _+_, _-_, _*_, _/_, _^_, _≤_, _<_, min}
 use native.Mathlib.Nat.{le-trans, le-of-eq, le-of-lt, mul-one, one-mul, zero-mul, mul-comm, mul-assoc, mul-right-comm, add-mul, mul-pos, mul-le-mul, mul-le-mul-right, le-of-mul-le-mul-right, div-le-of-le-mul, mul-mul-mul-comm, zero-lt-suc}
 use native.Mathlib.Omega.{arith}
-use lib.Dec.{T, ltb, eqb, ltb→lt, eqb→eq, eqb·suc-zero}
+use lib.Dec.{T, ltb, eqb, eqb·suc-zero}
 use lib.IntN.{ℤ, pos, negsuc, negℤ, natAbs}
 use lib.Signed.{mag}
+use borrow.Author.Tests.{ltb-true, eqb-true}
 use lib.Ieee.{Float, nan, inf, fin, Format, prec, emax, low, up, down, unlike, odd, units, round, sum, add, mul, div, ofInt, toSigned, le, lt, eq}
 use lib.Ieee.Fits.{up-pos, down-pos, round-is}
 use lib.Ieee.Exact.{HasValue}
 use lib.Ieee.Back.{round-whole}
 use lib.Ieee.Order.{round-mono}
+use Rattle.laws.proofs.Bools.{which}
 
 abbrev pub Within : Float → ℕ → Type 0
 Within nan n = ⊥
 Within (inf s) n = ⊥
 Within (fin s m e) n = m * up e ≤ n * down e
 
--- ---- the sign does not matter to `round`'s size
-odd-flip : (d : ℕ) (s : Bool) (q k l n : ℕ) → Within (odd d false q k l) n → Within (odd d s q k l) n
+-- ---- a sign is set on what is rounded without one
+abbrev signed : Bool → Float → Float
+signed s nan = nan
+signed s (inf r) = inf s
+signed s (fin r m e) = fin s m e
+
+within-signed : (s : Bool) (x : Float) (n : ℕ) → Within x n → Within (signed s x) n
+within-signed s nan n h = h
+within-signed s (inf r) n h = h
+within-signed s (fin r m e) n h = h
+
+odd-signed : (d : ℕ) (s : Bool) (q k l : ℕ) → odd d s q k l ≡ signed s (odd d false q k l)
 unfolding odd
-odd-flip d s zero k l n h = h
-odd-flip d s (suc q) k l n h = h
+odd-signed d s zero k l = refl
+odd-signed d s (suc q) k l = refl
 
-units-flip : (f : Format) (s : Bool) (q k n : ℕ) → Within (units f false q k) n → Within (units f s q k) n
+units-signed : (f : Format) (s : Bool) (q k : ℕ) → units f s q k ≡ signed s (units f false q k)
 unfolding units
-units-flip f s q k n h = go (ltb (q * 2 ^ k) (2 ^ (low f + suc (emax f)))) h
-  where
-    go : (b : Bool) → Within (cond b (odd (suc (prec f)) false q k (low f)) (inf false)) n → Within (cond b (odd (suc (prec f)) s q k (low f)) (inf s)) n
-    go true h = odd-flip (suc (prec f)) s q k (low f) n h
-    go false h = h
+units-signed f s q k =
+    ⊎-elim (λ h. rw h (odd-signed (suc (prec f)) s q k (low f))) (λ h. rw h) (which (ltb (q * 2 ^ k) (2 ^ (low f + suc (emax f)))))
 
--- ---- not negative
-abbrev Plus : Float → Type 0
-Plus nan = ⊥
-Plus (inf s) = s ≡ false
-Plus (fin s m e) = s ≡ false
-
-odd-plus : (d q k l : ℕ) → Plus (odd d false q k l)
-unfolding odd
-odd-plus d zero k l = refl
-odd-plus d (suc q) k l = refl
-
-units-plus : (f : Format) (q k : ℕ) → Plus (units f false q k)
-unfolding units
-units-plus f q k = go (ltb (q * 2 ^ k) (2 ^ (low f + suc (emax f))))
-  where
-    go : (b : Bool) → Plus (cond b (odd (suc (prec f)) false q k (low f)) (inf false))
-    go true = odd-plus (suc (prec f)) q k (low f)
-    go false = refl
+round-signed : (f : Format) (s : Bool) (a c : ℕ) → round f s a c ≡ signed s (round f false a c)
+round-signed f s a c = round-is f s a c ∙ units-signed f s _ _ ∙ ap (signed s) (sym (round-is f false a c))
 
 -- ---- what is at most a whole number
 or-le : (a b : ℕ) → T (ltb a b || (eqb a b && true)) → a ≤ b
-or-le a b t = go (ltb a b) (eqb a b) (ltb→lt a b) (eqb→eq a b) t
+or-le a b t =
+    ⊎-elim
+    (λ h. le-of-lt (ltb-true a b h))
+    (λ h. ⊎-elim (λ k. le-of-eq (eqb-true a b k)) (λ k. absurd (neither h k t)) (which (eqb a b)))
+    (which (ltb a b))
   where
-    go : (x y : Bool) → (T x → a < b) → (T y → a ≡ b) → T (x || (y && true)) → a ≤ b
-    go true y f g t = le-of-lt (f tt)
-    go false true f g t = le-of-eq (g tt)
-    go false false f g t = absurd t
+    neither : ltb a b ≡ false → eqb a b ≡ false → T (ltb a b || (eqb a b && true)) → ⊥
+    neither h k t = rw (h, k) at t
 
+-- a fraction at most another, which is n
 cross : (a e b d n : ℕ) → 0 < d → a * d ≤ b * e → b * 1 ≡ n * d → a ≤ n * e
-cross a e b d n D h v =
-    let w : b * e ≡ n * e * d = ap (λ (x : ℕ). x * e) (sym (mul-one b) ∙ v) ∙ mul-right-comm n d e in
-    le-of-mul-le-mul-right (le-trans h (le-of-eq w)) D
+cross a e b d n some h v =
+    let same : b * e ≡ n * e * d = ap (λ (x : ℕ). x * e) (sym (mul-one b) ∙ v) ∙ mul-right-comm n d e in
+    le-of-mul-le-mul-right (le-trans h (le-of-eq same)) some
 
-le-within : (x y : Float) (n : ℕ) → Plus x → T (le x y) → HasValue y false n 1 → Within x n
+le-within : (x y : Float) (n : ℕ) → T (le (signed false x) y) → HasValue y false n 1 → Within x n
 unfolding le lt eq
-le-within nan y n p t v = p
-le-within (inf s) nan n p t v = v
-le-within (inf s) (inf r) n p t v = v
-le-within (inf true) (fin r k d) n p t v = absurd (true≢false p)
-le-within (inf false) (fin r k d) n p t v = t
-le-within (fin s m e) nan n p t v = absurd v
-le-within (fin s m e) (inf r) n p t v = absurd v
-le-within (fin true m e) (fin r k d) n p t v = absurd (true≢false p)
-le-within (fin false m e) (fin true k d) n p t v = absurd (true≢false (v .0))
-le-within (fin false m e) (fin false k d) n p t v = cross (m * up e) (down e) (k * up d) (down d) n (down-pos d) (or-le (m * up e * down d) (k * up d * down e) t) (v .1)
+le-within x nan n t v = absurd v
+le-within x (inf r) n t v = absurd v
+le-within nan (fin r k d) n t v = t
+le-within (inf s) (fin r k d) n t v = t
+le-within (fin s m e) (fin true k d) n t v = absurd (true≢false (v .0))
+le-within (fin s m e) (fin false k d) n t v =
+    cross (m * up e) (down e) (k * up d) (down d) n (down-pos d) (or-le (m * up e * down d) (k * up d * down e) t) (v .1)
 
 pub round-within : (f : Format) (s : Bool) (a c n : ℕ) → 0 < c → a ≤ n * c → n ≤ 2 ^ prec f → Within (round f s a c) n
 round-within f s a c n C h k =
-    let t = round-mono f a c n 1 C (zero-lt-suc 0) (le-trans (le-of-eq (mul-one a)) h) in
-    let p : Plus (round f false a c) = rw (round-is f false a c) (units-plus f _ _) in
-    let w : Within (round f false a c) n = le-within (round f false a c) (round f false n 1) n p t (round-whole f false n k) in
-    rw (round-is f s a c) (units-flip f s _ _ n (rw (round-is f false a c) at w))
+    let x = round f false a c in
+    let y = round f false n 1 in
+    let below = round-mono f a c n 1 C (zero-lt-suc 0) (omega arith) in
+    rw (round-signed f s a c)
+    (within-signed s x n (le-within x y n (subst (λ (u : Float). T (le u y)) (round-signed f false a c) below) (round-whole f false n k)))
 
 -- ---- the operations
 pub ofInt-within : (f : Format) (z : ℤ) → natAbs z ≤ 2 ^ prec f → Within (ofInt f z) (natAbs z)
@@ -153,10 +148,6 @@ toSigned-within h (inf s) n p = absurd p
 toSigned-within h (fin s m e) n p =
     let c = cut-le (m * up e) (down e) n (down-pos e) p in
     either-mag s (min (m * up e / down e) (2 ^ h)) (min (m * up e / down e) (2 ^ h - 1)) n (omega arith) (omega arith)
-
--- ---- what `truncating_f32_to_i64` asks
-
--- ---- negation and difference
 
 -- a bound may be widened
 pub within-more : (x : Float) {n m : ℕ} → Within x n → n ≤ m → Within x m

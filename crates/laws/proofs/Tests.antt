@@ -30,15 +30,15 @@ module _ {A : Type 0} (p : A → Bool) (l : List A) (i : ℕ) where
   ended h s = sym (s ∙ ap (all p) (drop-of-length-le l h))
 
 module _ {A : Type 0} (p : A → Bool) (l : List A) (i : ℕ) (d : A) where
-  cons : i < length l → all p (drop i l) ≡ (p (getD l i d) && all p (drop (suc i) l))
+  here : i < length l → all p (drop i l) ≡ (p (getD l i d) && all p (drop (i + 1) l))
   unfolding all
-  cons h = ap (all p) (drop-cons l i d h)
+  here h = rw (drop-cons l i d h, add-one)
 
   pub passed : i < length l → p (getD l i d) ≡ true → Left p l i → Left p l (i + 1)
-  passed h e s = rw add-one (s ∙ cons h ∙ ap (λ (b : Bool). b && all p (drop (suc i) l)) e)
+  passed h e s = s ∙ here h ∙ rw e
 
   pub failed : i < length l → p (getD l i d) ≡ false → Left p l i → false ≡ all p l
-  failed h e s = sym (s ∙ cons h ∙ ap (λ (b : Bool). b && all p (drop (suc i) l)) e)
+  failed h e s = sym (s ∙ here h ∙ rw e)
 
 -- a test that holds of every element holds of the one at i
 pub all-at : {A : Type 0} (p : A → Bool) (l : List A) (i : ℕ) (d : A) → i < length l → all p l ≡ true → p (getD l i d) ≡ true
