@@ -3,7 +3,8 @@
 --     bits-same, bits-differ   what a test that was taken, or was not, says of the numbers
 --     flag                     the test itself
 use mathlib.Core.Path.{_≡_, refl, sym, ap, _∙_}
-use mathlib.Core.Bool.{Bool, true, false}
+use mathlib.Core.Bool.{true, false}
+use mathlib.Core.Logic.{⊎-elim}
 use lib.Dec.{eqb}
 use lib.IntN.{ℤ, pos, negsuc}
 use mir.Syntax.{Width}
@@ -11,6 +12,7 @@ use mir.Val.{SFits, toZ, ofZ}
 use mir.Facts.{toZ-ofZ}
 use borrow.Author.Tests.{eq-eqb, eqb-true, eqb-false}
 use Rattle.laws.specs.Integers.{eqZ}
+use Rattle.laws.proofs.Bools.{which}
 
 pub eqZ-refl : (a : ℤ) → eqZ a a ≡ true
 eqZ-refl (pos a) = eq-eqb a a refl
@@ -22,10 +24,6 @@ eqZ-true (pos a) (negsuc b) e = cc
 eqZ-true (negsuc a) (pos b) e = cc
 eqZ-true (negsuc a) (negsuc b) e = ap negsuc (eqb-true a b e)
 
-never-true : (t : Bool) → (t ≡ true → ⊥) → t ≡ false
-never-true true h = absurd (h refl)
-never-true false h = refl
-
 module _ {w : Width} {a b : ℤ} (p : SFits w a) (q : SFits w b) where
   pub bits-eq : ofZ w a ≡ ofZ w b → a ≡ b
   bits-eq e = sym (toZ-ofZ p) ∙ ap (toZ w) e ∙ toZ-ofZ q
@@ -34,11 +32,11 @@ module _ {w : Width} {a b : ℤ} (p : SFits w a) (q : SFits w b) where
   bits-same e = rw (bits-eq e) (eqZ-refl b)
 
   pub bits-differ : (ofZ w a ≡ ofZ w b → ⊥) → eqZ a b ≡ false
-  bits-differ n = never-true (eqZ a b) (λ t. n (ap (ofZ w) (eqZ-true a b t)))
+  bits-differ n = ⊎-elim (λ t. absurd (n (ap (ofZ w) (eqZ-true a b t)))) (λ t. t) (which (eqZ a b))
 
   pub flag : eqb (ofZ w a) (ofZ w b) ≡ eqZ a b
-  flag = go (eqb (ofZ w a) (ofZ w b)) (eqb-true (ofZ w a) (ofZ w b)) (eqb-false (ofZ w a) (ofZ w b))
-    where
-      go : (t : Bool) → (t ≡ true → ofZ w a ≡ ofZ w b) → (t ≡ false → ofZ w a ≡ ofZ w b → ⊥) → t ≡ eqZ a b
-      go true f g = sym (bits-same (f refl))
-      go false f g = sym (bits-differ (g refl))
+  flag =
+      ⊎-elim
+      (λ t. t ∙ sym (bits-same (eqb-true (ofZ w a) (ofZ w b) t)))
+      (λ t. t ∙ sym (bits-differ (eqb-false (ofZ w a) (ofZ w b) t)))
+      (which (eqb (ofZ w a) (ofZ w b)))

@@ -1,7 +1,7 @@
 -- The size of a signed number, `natAbs`, which omega reads as a number: of a sum, a difference, a product by a count, and what it takes to fit 64 bits.
 -- And the product with a sum, which the library leaves out.
 use mathlib.Core.Path.{_≡_, refl, sym, ap, ap₂, _∙_}
-use mathlib.Core.Bool.{Bool, true, false, cond}
+use mathlib.Core.Logic.{⊎-elim}
 use Prim.Native.Nat.{ℕ, zero, suc, _+_, _*_, _-_, _^_, _≤_, _<_}
 use native.Mathlib.Nat.{le-refl, add-suc}
 use native.Mathlib.Numerals.{unary-clauses}
@@ -11,6 +11,7 @@ use lib.Dec.{ltb}
 use lib.IntN.{ℤ, pos, negsuc, negℤ, natAbs, subℕ, _+ℤ_, _-ℤ_, _*ℤ_, +ℤ-assoc, +ℤ-comm, *ℤ-comm, *ℤ-zero, sucℤ-*ℤ, +ℤ-idr}
 use mir.Syntax.{w64}
 use mir.Val.{SFits}
+use Rattle.laws.proofs.Bools.{which}
 
 pub abs-fits : (z : ℤ) → natAbs z < 2 ^ 63 → SFits w64 z
 abs-fits (pos n) h = omega arith
@@ -21,12 +22,8 @@ abs-neg (pos zero) = refl
 abs-neg (pos (suc n)) = refl
 abs-neg (negsuc n) = refl
 
-abs-cond : (a b : ℕ) (t : Bool) → ltb a b ≡ t → natAbs (cond t (negsuc (b - suc a)) (pos (a - b))) ≤ a + b
-abs-cond a b true e = let h = ltb-true a b e in omega arith
-abs-cond a b false e = omega arith
-
 abs-subℕ : (a b : ℕ) → natAbs (subℕ a b) ≤ a + b
-abs-subℕ a b = abs-cond a b (ltb a b) refl
+abs-subℕ a b = ⊎-elim (λ t. let h = ltb-true a b t in rw t (omega arith)) (λ t. rw t (omega arith)) (which (ltb a b))
 
 pub abs-add : (a b : ℤ) → natAbs (a +ℤ b) ≤ natAbs a + natAbs b
 abs-add (pos a) (pos b) = le-refl (a + b)

@@ -1,9 +1,9 @@
--- A loop that tests the elements of a list from the front and stops at the first that fails computes `all`, whatever the elements and the test are.
---     Left       the elements passed were well: what is left decides
---     passed     one more was well
---     failed     one was not: the answer is false
---     ended      none is left: the answer is true
--- The same for the first n of a list (`counted`): the element at i of `take n l` is that of l.
+-- Tests made one after the other, in a loop over a list or in a row of `if`s, and the answer that comes of them.
+--     Left                    so far all were well: the list's test is that of what is left
+--     passed, failed, ended   one more is well; one is not; none is left
+--     ..-of, counted-..       the same of the first n of a list, and of a table of which n count
+--     no, yes, ..-at          what a call's answer says of its definition, by the branch that was taken
+--     and-no, and-yes, both, one-of   tests joined
 use mathlib.Core.Path.{_≡_, sym, ap, _∙_}
 use mathlib.Core.Bool.{Bool, true, false, not, _&&_, _||_}
 use borrow.Author.Tests.{not-true, not-false, le-leb, lt-leb}
@@ -27,7 +27,7 @@ Left p l i = all p l ≡ all p (drop i l)
 module _ {A : Type 0} (p : A → Bool) (l : List A) (i : ℕ) where
   pub ended : length l ≤ i → Left p l i → true ≡ all p l
   unfolding all
-  ended h s = sym (s ∙ ap (all p) (drop-of-length-le l h))
+  ended h s = sym (s ∙ rw (drop-of-length-le l {i = i} h))
 
 module _ {A : Type 0} (p : A → Bool) (l : List A) (i : ℕ) (d : A) where
   here : i < length l → all p (drop i l) ≡ (p (getD l i d) && all p (drop (i + 1) l))
@@ -47,52 +47,56 @@ all-at p [] i d h e = absurd (not-suc-le-zero h)
 all-at p (x ∷ l) zero d h e = left (p x) (all p l) e
 all-at p (x ∷ l) (suc i) d h e = all-at p l i d (le-of-suc-le-suc h) (right (p x) (all p l) e)
 
--- the same of the first n of l
+-- ---- the first n of a list
 module _ {A : Type 0} (p : A → Bool) (n : ℕ) (l : List A) (i : ℕ) (d : A) (h : i < n) (m : n ≤ length l) where
-  within : i < length (take n l)
-  within = rw (length-take-le n l m) h
+  inside : i < length (take n l)
+  inside = rw (length-take-le n l m) h
+
+  same : p (getD (take n l) i d) ≡ p (getD l i d)
+  same = ap p (getD-take n l i d h)
 
   pub passed-of : p (getD l i d) ≡ true → Left p (take n l) i → Left p (take n l) (i + 1)
-  passed-of e s = passed p (take n l) i d within (ap p (getD-take n l i d h) ∙ e) s
+  passed-of e = passed p (take n l) i d inside (same ∙ e)
 
   pub failed-of : p (getD l i d) ≡ false → Left p (take n l) i → false ≡ all p (take n l)
-  failed-of e s = failed p (take n l) i d within (ap p (getD-take n l i d h) ∙ e) s
+  failed-of e = failed p (take n l) i d inside (same ∙ e)
 
 pub ended-of : {A : Type 0} (p : A → Bool) (n : ℕ) (l : List A) (i : ℕ) → n ≤ length l → n ≤ i → Left p (take n l) i → true ≡ all p (take n l)
-ended-of p n l i m h s = ended p (take n l) i (rw (length-take-le n l m) h) s
+ended-of p n l i m h = ended p (take n l) i (rw (length-take-le n l m) h)
 
--- and the answer whole, for a table with room for m of which n count
+-- a table of m places of which n count: too many, one that is not well, or all well
 pub counted-over : {A : Type 0} (p : A → Bool) (n m : ℕ) (l : List A) → m < n → false ≡ counted n m p l
 unfolding counted
-counted-over p n m l h = rw (lt-leb n m h)
+counted-over p n m l h = sym (ap (λ b. b && all p (take n l)) (lt-leb n m h))
+
+few : {A : Type 0} (p : A → Bool) (n m : ℕ) (l : List A) → n ≤ m → all p (take n l) ≡ counted n m p l
+unfolding counted
+few p n m l h = sym (ap (λ b. b && all p (take n l)) (le-leb n m h))
 
 pub counted-no : {A : Type 0} (p : A → Bool) (n m : ℕ) (l : List A) (i : ℕ) (d : A) → n ≤ m → length l ≡ m → i < n → p (getD l i d) ≡ false → Left p (take n l) i → false ≡ counted n m p l
-unfolding counted
-counted-no p n m l i d h e j q s = rw (le-leb n m h) (failed-of p n l i d j (rw e h) q s)
+counted-no p n m l i d h e j q s = failed-of p n l i d j (rw e h) q s ∙ few p n m l h
 
 pub counted-yes : {A : Type 0} (p : A → Bool) (n m : ℕ) (l : List A) (i : ℕ) → n ≤ m → length l ≡ m → n ≤ i → Left p (take n l) i → true ≡ counted n m p l
-unfolding counted
-counted-yes p n m l i h e j s = rw (le-leb n m h) (ended-of p n l i (rw e h) j s)
+counted-yes p n m l i h e j s = ended-of p n l i (rw e h) j s ∙ few p n m l h
 
--- A function that returns false at the first test that fails computes the tests' conjunction: the answer at each `return`, from what the test's function ensures (`r ≡ b`) and the branch that was taken.
---     no, yes         the test `!f(x)` led into its arm, or past it: what f's definition says
---     and-no, and-yes   the answer at the first test that fails; past one that held
+-- ---- a call whose answer r is b, tested by `!`: the branch says b
 pub no : {r b : Bool} → r ≡ b → not r ≡ true → b ≡ false
-no e h = sym e ∙ not-true _ h
+no {r} e h = sym e ∙ not-true r h
 
 pub yes : {r b : Bool} → r ≡ b → not r ≡ false → b ≡ true
-yes e h = sym e ∙ not-false _ h
+yes {r} e h = sym e ∙ not-false r h
 
--- the same where a signed number was handed to f: it goes as bits, and fits
-pub no-at : (w : Width) {z : ℤ} {r : Bool} (p : ℤ → Bool) → mag z < 2 ^ hbits w → r ≡ p (toZ w (ofZ w z)) → not r ≡ true → p z ≡ false
-no-at w p f e h = no (e ∙ ap p (toZ-ofZ (record { sfits = f }))) h
-
-pub yes-at : (w : Width) {z : ℤ} {r : Bool} (p : ℤ → Bool) → mag z < 2 ^ hbits w → r ≡ p (toZ w (ofZ w z)) → not r ≡ false → p z ≡ true
-yes-at w p f e h = yes (e ∙ ap p (toZ-ofZ (record { sfits = f }))) h
-
+-- a signed number that is handed over goes as bits, and comes back where it fits
 pub is-at : (w : Width) {z : ℤ} {r : Bool} (p : ℤ → Bool) → mag z < 2 ^ hbits w → r ≡ p (toZ w (ofZ w z)) → r ≡ p z
 is-at w p f e = e ∙ ap p (toZ-ofZ (record { sfits = f }))
 
+pub no-at : (w : Width) {z : ℤ} {r : Bool} (p : ℤ → Bool) → mag z < 2 ^ hbits w → r ≡ p (toZ w (ofZ w z)) → not r ≡ true → p z ≡ false
+no-at w p f e = no (is-at w p f e)
+
+pub yes-at : (w : Width) {z : ℤ} {r : Bool} (p : ℤ → Bool) → mag z < 2 ^ hbits w → r ≡ p (toZ w (ofZ w z)) → not r ≡ false → p z ≡ true
+yes-at w p f e = yes (is-at w p f e)
+
+-- ---- joined
 pub and-no : {a : Bool} (b : Bool) → a ≡ false → false ≡ (a && b)
 and-no b e = rw e
 
