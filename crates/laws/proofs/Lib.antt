@@ -21,3 +21,6 @@ pub mod Differences
 pub mod Cuts
 pub mod Keys
 pub mod Reading
+pub mod Parts
+pub mod Lone
+pub mod Firsts
