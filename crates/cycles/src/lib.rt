@@ -106,23 +106,6 @@ pub fn cycle_ok(c: Cycle) -> bool
         & placed
 }
 
-// Whether a table has room for `count` cycles and each of them is well.
-pub fn cycles_ok(count: usize, table: [Cycle; PLACES]) -> bool
-    ensures { λ r. ⌜ r ≡ counted count places okCycle table ⌝ }
-{
-    if PLACES < count {
-        return false;
-    }
-    let mut i: usize = 0;
-    while i < count {
-        if !cycle_ok(table[i]) {
-            return false;
-        }
-        i += 1;
-    }
-    true
-}
-
 // The cycle once its next write is taken: one length later, at the value after it.
 pub fn advance(c: Cycle) -> Cycle
     requires { ⌜ okCycle c ≡ true ⌝ }
@@ -252,7 +235,7 @@ pub fn owed_by(table: [Cycle; PLACES], used: usize, until: i64) -> u64
 }
 
 // The lesser of two.
-fn lesser(a: u64, b: u64) -> u64
+pub fn lesser(a: u64, b: u64) -> u64
     ensures { λ r. ⌜ r ≡ min a b ⌝ }
 {
     if a < b {
@@ -271,7 +254,7 @@ pub fn gains(b: Budget, owes: u64) -> u64
 }
 
 // What the writes of a target are asked with.
-fn ask_for(round: Round, target: i32) -> Ask
+pub fn ask_for(round: Round, target: i32) -> Ask
     ensures { λ r. ⌜ r ≡ askFor round target ⌝ }
 {
     let k = key_of(target);

@@ -2,23 +2,21 @@
 // that copies them into an array and back, and one that makes the writes that are due; each calls one function on a record by
 // value a turn. A table that is not of sixteen is left alone.
 ghost use mathlib.Core.Path.{_≡_};
-ghost use Prim.Native.Nat.{min};
 ghost use lib.ListN.{length};
 ghost use Rattle.numbers.specs.Limits.{places};
-ghost use Rattle.cycles.specs.Turns.{askFor};
 ghost use Rattle.cycling.specs.Calls.{roundOf, cycledOf, cycledList};
 ghost use Rattle.lending.specs.Passing.{ran, placed};
 ghost use Rattle.lending.specs.Moving.{moveOf, moved, carried, loading, saving, loadedOf, savedOf};
 ghost use Rattle.lending.specs.Writing.{mayGo, wentOf, wentList, passOf, onward, advancedBy, begunWith, answerOf};
 use budget::Budget;
 use budget::remaining_event_capacity;
-use cycles::Ask;
 use cycles::Cycle;
 use cycles::PLACES;
 use cycles::Round;
+use cycles::ask_for;
 use cycles::cycle_ok;
 use cycles::due_count;
-use cycles::key_of;
+use cycles::lesser;
 use cycles::run_record;
 use cycles::write_limit;
 use cycling::cycle_refusal;
@@ -155,29 +153,6 @@ pub struct Answer {
     pub count: usize,
 }
 
-// The lesser of two.
-fn least(a: u64, b: u64) -> u64
-    ensures { λ r. ⌜ r ≡ min a b ⌝ }
-{
-    if a < b {
-        return a;
-    }
-    b
-}
-
-// What the writes of a target are asked with.
-fn ask_of(round: Round, target: i32) -> Ask
-    ensures { λ r. ⌜ r ≡ askFor round target ⌝ }
-{
-    let k = key_of(target);
-    let option = round.options[k];
-    Ask {
-        until: round.until,
-        channel: round.channel,
-        option: option,
-    }
-}
-
 // Whether a record's writes are made: the call was not refused, the track counts the record, and it, the time and the room for
 // its events are in order. In a call that was not refused, these always are.
 fn may_go(round: Round, c: Cycle, long: usize, s: Going) -> bool
@@ -190,9 +165,9 @@ fn may_go(round: Round, c: Cycle, long: usize, s: Going) -> bool
         return false;
     }
     let due = due_count(c, round.until);
-    let made = least(s.left, due);
+    let made = lesser(s.left, due);
     let fitting = remaining_event_capacity(s.budget) as u64;
-    let more = least(fitting, made);
+    let more = lesser(fitting, made);
     (s.count as u64) + more <= (rows as u64)
 }
 
@@ -203,7 +178,7 @@ pub fn step_record(round: Round, c: Cycle, events: &mut [i64], s: Going) -> Went
     if !may_go(round, c, events.len(), s) {
         return Went { cycle: c, going: s };
     }
-    let ask = ask_of(round, c.target);
+    let ask = ask_for(round, c.target);
     let b = s.budget;
     let r = run_record(c, ask, s.left, b, events, s.count);
     let cycle = r.cycle;

@@ -44,7 +44,7 @@ module _ (c : tie.Else1) where
   o = in-order (s d .args .round) (s d .args .c) (s d .args .long) (s d .args .s) held
 
 -- what the record adds
-module _ (c : tie.After-least2) where
+module _ (c : tie.After-lesser2) where
   abbrev m : tie.After-due-count
   m = c .before .before .before
 
@@ -57,8 +57,8 @@ module _ (c : tie.After-least2) where
   due : m .due-count .result ≡ dueCount (b .args .round .until) (b .args .c)
   due = rw (toZ-ofZ (until-fits (d h))) at (m .due-count .ensures)
 
-  added : c .least2 .result ≡ min (room valueBytes (b .args .s .budget)) (madeBy (b .args .round) (b .args .c) (b .args .s .left))
-  added = c .least2 .ensures ∙ ap₂ min (c .before .remaining-event-capacity .ensures) (c .before .before .least .ensures ∙ ap (min (b .args .s .left)) due)
+  added : c .lesser2 .result ≡ min (room valueBytes (b .args .s .budget)) (madeBy (b .args .round) (b .args .c) (b .args .s .left))
+  added = c .lesser2 .ensures ∙ ap₂ min (c .before .remaining-event-capacity .ensures) (c .before .before .lesser .ensures ∙ ap (min (b .args .s .left)) due)
 
 cycle-ok-requires : tie.Need-cycle-ok-requires
 cycle-ok-requires c κs = search needs
@@ -73,8 +73,8 @@ returns c = and-no _ (no (asked (c .before .before .before .before)) (c .if1 .ta
 due-count-requires : tie.Need-due-count-requires
 due-count-requires c κs = let h = c .before in (o h .well, rw (toZ-ofZ (until-fits (d h))) (o h .timely))
 
-least-requires : tie.Need-least-requires
-least-requires c κs = search needs
+lesser-requires : tie.Need-lesser-requires
+lesser-requires c κs = search needs
 
 remaining-event-capacity-requires : tie.Need-remaining-event-capacity-requires
 remaining-event-capacity-requires c κs = search needs
@@ -82,11 +82,11 @@ remaining-event-capacity-requires c κs = search needs
 cast-fitting : tie.Need-cast-fitting
 cast-fitting c = search needs
 
-least-requires-2 : tie.Need-least-requires-2
-least-requires-2 c κs = search needs
+lesser-requires-2 : tie.Need-lesser-requires-2
+lesser-requires-2 c κs = search needs
 
 add-result : tie.Need-add-result
-add-result c = omega (arith, c .least2 .ensures, c .before .remaining-event-capacity .ok, o (h c) .within)
+add-result c = omega (arith, c .lesser2 .ensures, c .before .remaining-event-capacity .ok, o (h c) .within)
 
 returns-2 : tie.Need-returns-2
 unfolding mayGo
@@ -100,9 +100,9 @@ may-go-spec =
     is-time-requires
     returns
     due-count-requires
-    least-requires
+    lesser-requires
     remaining-event-capacity-requires
     cast-fitting
-    least-requires-2
+    lesser-requires-2
     add-result
     returns-2)
