@@ -1,9 +1,9 @@
 -- What a record's call leaves, on its definition, by the tests on the way: both frequencies or neither, a new budget, and the call
 -- of the record's mark.
-use mathlib.Core.Path.{_≡_, refl, ap, sym, _∙_}
+use mathlib.Core.Path.{_≡_, ap, sym, _∙_}
 use mathlib.Core.Bool.{true, false, true≢false}
 use mathlib.Core.List.{List}
-use Prim.Native.Nat.{ℕ, _≤_}
+use Prim.Native.Nat.{ℕ}
 use native.Mathlib.Omega.{arith}
 use lib.Dec.{T}
 use lib.IntN.{ℤ, pos, negsuc, natAbs}
@@ -11,7 +11,7 @@ use lib.Signed.{nonNeg}
 use mir.Syntax.{w32}
 use mir.Val.{ofZ, Fits}
 use borrow.Author.Tests.{eq-eqb, ne-eqb}
-use Rattle.laws.specs.Integers.{inside, cut}
+use Rattle.laws.specs.Integers.{inside}
 use Rattle.laws.proofs.Cuts.{nonNeg-cut}
 use Rattle.laws.proofs.Ranges.{inside-mag}
 use Rattle.laws.proofs.Signed.{natAbs-le}

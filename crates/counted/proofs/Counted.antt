@@ -12,12 +12,14 @@ use borrow.Author.Tests.{leb-true, le-leb}
 use lib.Dec.{leb, ltb}
 use lib.IntN.{ℤ, pos}
 use lib.ListN.{length, getD, drop}
-use lib.Seq.{take-at, getD-take, length-take-le}
+use lib.Seq.{take-at, getD-take}
 use Rattle.laws.specs.Lists.{all, counted}
 use Rattle.laws.proofs.Ranges.{left, right}
 use Rattle.laws.proofs.Tests.{all-at}
+use Rattle.laws.proofs.Parts.{all-get}
 use Rattle.numbers.specs.Limits.{listLimit}
 use Rattle.numbers.specs.Ranges.{isNumber, isLength}
+use Rattle.numbers.proofs.Tested.{zero-number}
 use Rattle.counted.specs.declared.Numbers.{Numbers}
 use Rattle.counted.specs.declared.Listed.{Listed}
 use Rattle.counted.specs.Numbers.{zeros, none, numbers, numbersOf, shown, okNumbers}
@@ -36,14 +38,11 @@ module _ (a : Numbers) where
   unfolding okNumbers counted
   numbers-count e = leb-true (a .count) listLimit (left (leb (a .count) listLimit) (all isNumber (shown a)) e)
 
-  module _ (m : length (a .items) ≡ listLimit) (i : ℕ) where
-    pub numbers-at : okNumbers a ≡ true → i < a .count → isNumber (getD (a .items) i (pos 0)) ≡ true
-    unfolding okNumbers counted
-    numbers-at e h =
-        let k = numbers-count e in
-        let n = length-take-le (a .count) (a .items) (omega arith) in
-        sym (ap isNumber (getD-take (a .count) (a .items) i (pos 0) h))
-        ∙ all-at isNumber (shown a) i (pos 0) (omega arith) (right (leb (a .count) listLimit) (all isNumber (shown a)) e)
+  pub numbers-at : (i : ℕ) → okNumbers a ≡ true → i < a .count → isNumber (getD (a .items) i (pos 0)) ≡ true
+  unfolding okNumbers counted
+  numbers-at i e h =
+      sym (ap isNumber (getD-take (a .count) (a .items) i (pos 0) h))
+      ∙ all-get isNumber (shown a) i (pos 0) zero-number (right (leb (a .count) listLimit) (all isNumber (shown a)) e)
 
   pub curve-numbers : okCurve a ≡ true → okNumbers a ≡ true
   unfolding okCurve

@@ -2,9 +2,9 @@
 -- (`count-mono`), and some exactly where the Rust's own test of its next time holds (`test-yes`, `test-no`). These four
 -- facts carry everything else; integers are not met again.
 use mathlib.Core.Path.{_≡_, refl, sym, ap, _∙_}
-use mathlib.Core.Bool.{Bool, true, false, not}
-use mathlib.Core.List.{List, [], _∷_, _++_}
-use Prim.Native.Nat.{ℕ, zero, suc, _+_, _-_, _*_, _/_, _≤_, _<_, zero-le}
+use mathlib.Core.Bool.{not}
+use mathlib.Core.List.{List, _∷_, _++_}
+use Prim.Native.Nat.{ℕ, zero, suc, _+_, _-_, _/_, _≤_, _<_, zero-le}
 use native.Mathlib.Nat.{zero-add, suc-add, div-eq-of-lt, div-eq-sub-div, le-div-iff-mul-le, div-mul-le-self, le-trans}
 use native.Mathlib.Omega.{arith}
 use native.Mathlib.Decide.{decLe}
@@ -104,11 +104,6 @@ unfolding dueCount steps
 test-no t c h = rw (gap-no (c .next) t h)
 
 -- ---- a record after k writes
-
-pub length-after : (k : ℕ) (c : Cycle) → after k c .length ≡ c .length
-unfolding after advanced
-length-after zero c = refl
-length-after (suc k) c = length-after k (advanced c)
 
 pub target-after : (k : ℕ) (c : Cycle) → after k c .target ≡ c .target
 unfolding after advanced

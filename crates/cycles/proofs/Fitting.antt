@@ -2,19 +2,19 @@
 -- advanced while it is due stays within its ranges.
 use mathlib.Core.Path.{_≡_, refl, sym, ap, _∙_}
 use mathlib.Core.Bool.{Bool, true, false, not, cond, _&&_}
-use Prim.Native.Nat.{ℕ, zero, suc, _+_, _-_, _*_, _/_, _%_, _≤_, _<_, _^_}
+use Prim.Native.Nat.{ℕ, suc, _+_, _-_, _/_, _%_, _≤_, _<_, _^_}
 use native.Mathlib.Nat.{mod-lt, div-le-self}
 use native.Mathlib.Numerals.{add-one}
 use native.Mathlib.Omega.{arith}
-use borrow.Author.Tests.{ltb-true, lt-ltb}
+use borrow.Author.Tests.{lt-ltb}
 use mir.Syntax.{w32, w64}
 use mir.Val.{SFits, Fits}
 use lib.Dec.{T, ltb, not-T, leb→le}
-use lib.IntN.{ℤ, pos, negsuc, negℤ, subℕ, natAbs, _+ℤ_, _-ℤ_, +ℤ-invr, +ℤ-idl}
+use lib.IntN.{ℤ, pos, negsuc, negℤ, natAbs, _+ℤ_, _-ℤ_, +ℤ-invr, +ℤ-idl}
 use lib.Signed.{mag, nonNeg, leZ, ltZ, leZ-yes, ltZ-yes, ltZ-no, clashℤ}
-use Rattle.laws.specs.Integers.{cut, inside, sized}
+use Rattle.laws.specs.Integers.{cut}
 use Rattle.laws.proofs.Signed.{mag-add, mag-sub}
-use Rattle.laws.proofs.Ranges.{left, right, sized-mag, sized-small}
+use Rattle.laws.proofs.Ranges.{left, sized-mag, sized-small}
 use Rattle.laws.proofs.Differences.{more, swap}
 use Rattle.numbers.specs.Ranges.{isTarget, isLength, isStoredTime, isTime}
 use Rattle.counted.specs.Numbers.{okNumbers}

@@ -3,7 +3,7 @@
 use mathlib.Core.Path.{_≡_, refl, _∙_}
 use mathlib.Core.Bool.{Bool, true, false, cond}
 use mathlib.Core.List.{List, [], _∷_}
-use Prim.Native.Nat.{ℕ, _+_}
+use Prim.Native.Nat.{ℕ}
 use native.Mathlib.Omega.{arith}
 use lib.IntN.{ℤ, pos, negsuc}
 use lib.Signed.{leZ-yes}
@@ -12,13 +12,11 @@ use Rattle.laws.specs.Lists.{all, counted}
 use Rattle.laws.specs.Keys.{absent, distinct}
 use Rattle.numbers.specs.Ranges.{isTarget, isLength, isStoredTime, isNumber}
 use Rattle.counted.specs.Numbers.{okNumbers}
-use Rattle.budget.specs.declared.Budget.{Budget}
 use Rattle.cycles.specs.declared.Cycle.{Cycle}
 use Rattle.cycles.specs.Due.{DueWrite, writeOf, advanced, run, after, gap, steps, dueCount, owed, takes, leaves}
 use Rattle.cycles.specs.Rules.{okCycle, okTable}
 use Rattle.cycles.specs.Calls.{State, Turn, limit, wrote, push, share, moved, call, series, answered, Accepted, Until, hits}
 use Rattle.cycles.specs.Promise.{Done}
-use Rattle.cycles.proofs.Cases.{tens}
 use Rattle.cycles.proofs.Series.{demand-3}
 
 abbrev plain : Turn DueWrite
@@ -35,6 +33,10 @@ strict u s e = go (okTable (s .table)) e
     go : (b : Bool) → _≡_ {A = ℕ} (cond b 0 4) 0 → b ≡ true
     go true e = refl
     go false e = absurd (omega arith)
+
+-- "cycle 24 with 10,20,30", the value at `i` next, at time n
+abbrev tens : ℤ → ℕ → Cycle
+tens n i = record { target = pos 11; length = pos 24; next = n; index = i; values = record { count = 3; items = pos 10 ∷ pos 20 ∷ pos 30 ∷ [] } }
 
 abbrev bend : Cycle
 bend = record { target = pos 128; length = pos 50; next = negsuc 9; index = 0; values = record { count = 1; items = pos 7 ∷ [] } }

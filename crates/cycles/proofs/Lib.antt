@@ -10,5 +10,4 @@ pub mod Push
 pub mod Running
 pub mod Placing
 pub mod Meaning
-pub mod Cases
 pub mod Instance

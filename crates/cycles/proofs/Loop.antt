@@ -2,7 +2,7 @@
 -- record stops nothing (`request-k`): where the count reaches 10,000, the total has reached it too.
 use mathlib.Core.Path.{_≡_, refl, sym, ap, ap₂, _∙_}
 use mathlib.Core.Bool.{Bool, true, false, cond, _&&_, and-false, and-true}
-use mathlib.Core.List.{List, [], _∷_, _++_}
+use mathlib.Core.List.{List, [], _∷_}
 use Prim.Native.Nat.{ℕ, zero, suc, _+_, _-_, _≤_, _<_, min}
 use native.Mathlib.Omega.{arith}
 use borrow.Author.Tests.{lt-ltb, ltb-true, ltb-false, leb-true}
@@ -13,7 +13,7 @@ use Rattle.laws.specs.Integers.{cut}
 use Rattle.numbers.specs.Limits.{cycleWrites}
 use Rattle.budget.specs.declared.Budget.{Budget}
 use Rattle.cycles.specs.declared.Cycle.{Cycle}
-use Rattle.cycles.specs.Due.{DueWrite, writeOf, advanced, run, after, dueCount, takes, leaves}
+use Rattle.cycles.specs.Due.{writeOf, advanced, run, after, dueCount, takes, leaves}
 use Rattle.cycles.specs.Loop.{Inner, inner, first, countedLoop, recordLoop, Outer, joined, tableLoop}
 use Rattle.cycles.specs.Calls.{limit}
 use Rattle.cycles.proofs.Count.{count-advanced, test-yes, test-no}

@@ -2,7 +2,6 @@
 -- `index-at`), and it is due exactly where the Rust's own test holds at its time (`due-yes`, `due-no`).
 use mathlib.Core.Path.{_≡_, refl, sym, ap, _∙_}
 use mathlib.Core.Bool.{Bool, true, false}
-use mathlib.Core.List.{List, [], _∷_}
 use Prim.Native.Nat.{ℕ, zero, suc, _+_, _-_, _*_, _%_, _<_}
 use native.Mathlib.Nat.{zero-mul, suc-mul, mod-eq-of-lt, mod-add-mod, mod-lt}
 use native.Mathlib.Omega.{arith}

@@ -11,7 +11,7 @@ use lib.IntN.{ℤ, pos, negsuc, _+ℤ_}
 use lib.Signed.{ltZ, _<ℤ_, ltZ-yes}
 use Rattle.laws.specs.Integers.{cut}
 use Rattle.cycles.specs.declared.Cycle.{Cycle}
-use Rattle.cycles.specs.Due.{DueWrite, writeOf, advanced, run, dueCount, due, dues, key, only}
+use Rattle.cycles.specs.Due.{writeOf, advanced, run, dueCount, due, dues, key, only}
 use Rattle.cycles.specs.Promise.{InOrder}
 use Rattle.cycles.proofs.Table.{Free, Fine, free-dues, mine, other}
 

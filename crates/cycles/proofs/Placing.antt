@@ -1,7 +1,7 @@
 -- A table's records, run one after the other: after i of them the first i are as a call leaves them, and budget and list
 -- are what the writes of the first i leave (`Placed`).
 use mathlib.Core.Path.{_≡_, refl, sym, ap, ap₂, _∙_}
-use mathlib.Core.Bool.{Bool, true, false, cond, _&&_}
+use mathlib.Core.Bool.{Bool, true, false, cond}
 use mathlib.Core.List.{List, [], _∷_, _++_, append-nil, append-assoc}
 use Prim.Native.Nat.{ℕ, zero, suc, _+_, _-_, _≤_, _<_, min, max}
 use native.Mathlib.Omega.{arith}
@@ -9,16 +9,17 @@ use native.Mathlib.Numerals.{add-one}
 use lib.Dec.{leb}
 use borrow.Author.Tests.{leb-true}
 use lib.IntN.{ℤ}
-use lib.ListN.{length, take, drop, set, getD, length-append, length-drop, take-append-drop}
+use lib.ListN.{length, take, drop, set, getD, take-append-drop}
 use lib.Seq.{take-suc, drop-cons, set-at, getD-at, getD-take, append-snoc, length-take-le, take-append-seam, take-add}
 use Rattle.laws.specs.Lists.{all, counted, putFirst}
 use Rattle.laws.proofs.Compact.{put-again}
 use Rattle.laws.proofs.Ranges.{left, right}
 use Rattle.laws.proofs.Tests.{all-at}
+use Rattle.laws.proofs.Firsts.{length-putFirst}
 use Rattle.numbers.specs.Limits.{valueBytes, places}
 use Rattle.numbers.specs.Ranges.{isTime}
 use Rattle.budget.specs.declared.Budget.{Budget}
-use Rattle.budget.specs.Budgets.{fits, reserved}
+use Rattle.budget.specs.Budgets.{fits}
 use Rattle.events.specs.declared.Event.{Event}
 use Rattle.events.specs.Events.{zeroEvent}
 use Rattle.values.specs.declared.WriteOption.{WriteOption}
@@ -26,13 +27,12 @@ use Rattle.cycles.specs.declared.Cycle.{Cycle}
 use Rattle.cycles.specs.declared.Round.{Round}
 use Rattle.cycles.specs.declared.Ask.{Ask}
 use Rattle.cycles.specs.declared.Ran.{Ran}
-use Rattle.cycles.specs.declared.Called.{Called}
 use Rattle.cycles.specs.Due.{DueWrite, writeOf, advanced, run, after, dueCount, owed, takes, leaves}
 use Rattle.cycles.specs.Rules.{okCycle}
-use Rattle.cycles.specs.Calls.{State, Turn, limit, wrote, pushAll, share, moved, call}
+use Rattle.cycles.specs.Calls.{State, Turn, limit, wrote, pushAll, share, moved}
 use Rattle.cycles.specs.Turns.{turn, turnOf, optionOf, askFor, made, ranState, ranOf, calledState, calledOf}
 use Rattle.cycles.proofs.Push.{pushAll-append, call-one-pass}
-use Rattle.cycles.proofs.Running.{pushAll-grows, length-putFirst}
+use Rattle.cycles.proofs.Running.{pushAll-grows}
 use Rattle.cycles.proofs.Keeping.{length-leaves}
 
 -- ---- a table cut in two

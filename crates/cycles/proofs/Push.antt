@@ -1,18 +1,16 @@
 -- The Rust collects a call's writes, then pushes them up to the first that does not fit. As a call takes at most one more
 -- than fit, that one is always the last: so pushing each write as its record advances, with no stop, leaves the same.
-use mathlib.Core.Path.{_≡_, refl, sym, ap, _∙_}
+use mathlib.Core.Path.{_≡_, refl, ap, _∙_}
 use mathlib.Core.Bool.{Bool, true, false, cond}
 use mathlib.Core.List.{List, [], _∷_, _++_}
-use Prim.Native.Nat.{ℕ, zero, suc, _+_, _-_, _*_, _/_, _≤_, _<_, min}
+use Prim.Native.Nat.{_+_, _-_, _*_, _/_, _≤_, min}
 use native.Mathlib.Omega.{arith}
 use borrow.Author.Tests.{leb-true, leb-false}
-use lib.Dec.{leb}
 use lib.IntN.{ℤ}
 use lib.ListN.{length, length-append}
 use Rattle.numbers.specs.Limits.{valueBytes, cycleWrites}
-use Rattle.budget.specs.Budgets.{free, room, fits, reserved}
-use Rattle.cycles.specs.declared.Cycle.{Cycle}
-use Rattle.cycles.specs.Due.{DueWrite, owed, takes}
+use Rattle.budget.specs.Budgets.{free, room, fits}
+use Rattle.cycles.specs.Due.{DueWrite, owed}
 use Rattle.cycles.specs.Calls.{State, Turn, limit, wrote, push, share, moved, call, pushAll}
 use Rattle.cycles.proofs.Table.{length-takes}
 

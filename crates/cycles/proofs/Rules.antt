@@ -1,14 +1,14 @@
 -- What the tests of a record and of a table tell, as facts that `omega` reads.
-use mathlib.Core.Path.{_≡_, refl, sym, ap, _∙_}
-use mathlib.Core.Bool.{Bool, true, false, not, _&&_, false≢true}
-use mathlib.Core.List.{List, [], _∷_, map}
+use mathlib.Core.Path.{_≡_}
+use mathlib.Core.Bool.{true, not, _&&_, false≢true}
+use mathlib.Core.List.{List, [], _∷_}
 use Prim.Native.Nat.{ℕ, _≤_, _<_, _^_}
 use native.Mathlib.Omega.{arith}
 use borrow.Author.Tests.{ltb-true, leb-true, not-true}
-use lib.Dec.{leb, ltb, eqb}
+use lib.Dec.{ltb, eqb}
 use lib.IntN.{ℤ, pos, negsuc}
 use lib.Signed.{leZ, mag}
-use Rattle.laws.specs.Integers.{cut, inside, sized}
+use Rattle.laws.specs.Integers.{cut}
 use Rattle.laws.specs.Lists.{all}
 use Rattle.laws.proofs.Ranges.{left, right, sized-mag, inside-mag}
 use Rattle.laws.specs.Keys.{absent, distinct}

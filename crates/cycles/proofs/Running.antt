@@ -1,30 +1,27 @@
 -- One record's writes, taken one after the other: after k of them the record is `after k`, and budget and list are what k
 -- writes leave (`Running`). A write that fits puts one event behind the list (`put`), one that does not changes no event
 -- (`skip`); both advance the record.
-use mathlib.Core.Path.{_≡_, refl, sym, ap, ap₂, _∙_}
+use mathlib.Core.Path.{_≡_, refl, sym, ap, _∙_}
 use mathlib.Core.Bool.{Bool, true, false, cond}
-use mathlib.Core.List.{List, [], _∷_, _++_, append-nil}
-use Prim.Native.Nat.{ℕ, zero, suc, _+_, _-_, _≤_, _<_, min, max}
+use mathlib.Core.List.{List, [], _∷_, _++_}
+use Prim.Native.Nat.{ℕ, _+_, _-_, _≤_, _<_, max}
 use native.Mathlib.Omega.{arith}
 use lib.Dec.{T}
-use lib.IntN.{ℤ}
 use lib.Signed.{leZ, ltZ}
-use lib.ListN.{length, take, drop, replicate, length-append, length-drop, length-replicate, take-append-drop}
+use lib.ListN.{length, take, length-append, take-append-drop}
 use lib.Seq.{length-take-le}
-use Rattle.laws.specs.Integers.{cut}
 use Rattle.laws.specs.Lists.{putFirst}
 use Rattle.laws.proofs.Compact.{put-one}
+use Rattle.laws.proofs.Firsts.{length-putFirst}
 use Rattle.numbers.specs.Limits.{valueBytes}
 use Rattle.numbers.specs.Ranges.{isTime}
 use Rattle.budget.specs.declared.Budget.{Budget}
-use Rattle.budget.specs.Budgets.{fits, reserved}
+use Rattle.budget.specs.Budgets.{fits}
 use Rattle.events.specs.declared.Event.{Event}
 use Rattle.events.specs.Events.{zeroEvent}
 use Rattle.values.specs.Value.{wroteOf}
 use Rattle.cycles.specs.declared.Cycle.{Cycle}
 use Rattle.cycles.specs.declared.Ask.{Ask}
-use Rattle.cycles.specs.declared.Stepped.{Stepped}
-use Rattle.cycles.specs.declared.Ran.{Ran}
 use Rattle.cycles.specs.Due.{DueWrite, writeOf, advanced, run, after, dueCount}
 use Rattle.cycles.specs.Rules.{okCycle}
 use Rattle.cycles.specs.Calls.{State, Turn, wrote, pushAll}
@@ -52,11 +49,6 @@ module _ {E : Type 0} (f : Turn E) where
   unfolding pushAll
   pushAll-grows [] s = omega arith
   pushAll-grows (w ∷ ws) s = omega (arith, wrote-grows w s, pushAll-grows ws (wrote f w s))
-
--- a list that is put first and fits leaves the length as it was
-pub length-putFirst : {A : Type 0} (z : A) (n : ℕ) (es l : List A) → n ≤ length l → length es ≤ length l → length (putFirst z n es l) ≡ length l
-length-putFirst z n es l h k =
-    rw (length-append, length-append, length-replicate, length-drop) (omega arith)
 
 module _ (ask : Ask) (c : Cycle) (b : Budget) (rs : List Event) (count : ℕ) where
   abbrev pub sofar : ℕ → State Event

@@ -4,10 +4,9 @@
 use mathlib.Core.Path.{_≡_, refl, sym, ap, ap₂, _∙_}
 use mathlib.Core.Bool.{Bool, true, false, cond}
 use mathlib.Core.List.{List, [], _∷_, _++_, append-nil, append-assoc}
-use Prim.Native.Nat.{ℕ, zero, suc, _+_, _-_, _*_, _/_, _≤_, _<_, min}
+use Prim.Native.Nat.{ℕ, suc, _+_, _-_, _*_, _/_, _≤_, min}
 use native.Mathlib.Omega.{arith}
 use borrow.Author.Tests.{le-leb}
-use lib.Dec.{leb}
 use lib.IntN.{ℤ}
 use lib.Signed.{_≤ℤ_}
 use lib.ListN.{length, length-append}
@@ -15,11 +14,11 @@ use Rattle.laws.specs.Integers.{eqZ}
 use Rattle.laws.proofs.Bits.{eqZ-true}
 use Rattle.numbers.specs.Limits.{cycleWrites, valueBytes}
 use Rattle.budget.specs.declared.Budget.{Budget}
-use Rattle.budget.specs.Budgets.{free, fits, reserved}
+use Rattle.budget.specs.Budgets.{free}
 use Rattle.cycles.specs.declared.Cycle.{Cycle}
-use Rattle.cycles.specs.Due.{DueWrite, dues, owed, takes, leaves, only}
+use Rattle.cycles.specs.Due.{DueWrite, dues, owed, leaves, only}
 use Rattle.cycles.specs.Rules.{okTable}
-use Rattle.cycles.specs.Calls.{State, Turn, seeded, limit, wrote, push, eventsOf, seedOf, share, moved, call, series, made, answered, calls, Accepted, Until, hits}
+use Rattle.cycles.specs.Calls.{State, Turn, limit, wrote, push, eventsOf, seedOf, share, moved, call, series, made, answered, calls, Accepted, Until, hits}
 use Rattle.cycles.specs.Promise.{InOrder, Done}
 use Rattle.cycles.proofs.Table.{Fine, length-takes, owed-leaves, owed-mono, only-append, split, none-due}
 use Rattle.cycles.proofs.Rules.{fine}

@@ -13,7 +13,7 @@ use lib.ListN.{length, length-append}
 use Rattle.laws.specs.Integers.{cut}
 use Rattle.cycles.specs.declared.Cycle.{Cycle}
 use Rattle.cycles.specs.Due.{DueWrite, writeOf, advanced, run, after, dueCount, due, dues, owed, takes, leaves, key, only}
-use Rattle.cycles.proofs.Count.{count-after, count-mono, length-after, target-after, length-run, run-add}
+use Rattle.cycles.proofs.Count.{count-after, count-mono, target-after, length-run, run-add}
 
 -- none of the records has this key
 abbrev pub Free : ℕ → List Cycle → Type 0

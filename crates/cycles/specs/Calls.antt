@@ -1,7 +1,7 @@
 -- 01, "Cycles": one call of a cycle table, and a series of them.
 -- E is what a write becomes: the theorems hold whatever random, range, delay, clamp and channel do.
 use mathlib.Core.Path.{_≡_}
-use mathlib.Core.Bool.{Bool, true, false, cond}
+use mathlib.Core.Bool.{cond}
 use mathlib.Core.List.{List, [], _∷_, _++_}
 use Prim.Native.Nat.{ℕ, zero, suc, _+_, min}
 use lib.IntN.{ℤ}

@@ -1,7 +1,7 @@
 -- The Rust's two loops of `write_cc_on_cycle`, turn by turn: as they stand, with a count of 10,000 for each record beside
 -- the total, and with that count left out (02, k). `k` turns are left; a walk that has at least as many as it may make
 -- writes is never stopped by it.
-use mathlib.Core.Bool.{Bool, cond, _&&_}
+use mathlib.Core.Bool.{cond, _&&_}
 use mathlib.Core.List.{List, [], _∷_, _++_}
 use Prim.Native.Nat.{ℕ, zero, suc, _+_}
 use lib.Dec.{leb, ltb}

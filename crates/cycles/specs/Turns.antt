@@ -1,7 +1,7 @@
 -- 01, "One value": what a due write becomes, and what one record's share of a call leaves.
 use mathlib.Core.List.{List, [], _++_}
 use Prim.Native.Nat.{ℕ, min}
-use lib.IntN.{ℤ, pos}
+use lib.IntN.{ℤ}
 use lib.ListN.{length, getD, take, drop}
 use Rattle.budget.specs.declared.Budget.{Budget}
 use Rattle.events.specs.declared.Event.{Event}

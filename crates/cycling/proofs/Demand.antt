@@ -37,9 +37,10 @@ use Rattle.tables.proofs.Keeping.{cycle-rules}
 use Rattle.state.specs.declared.Track.{Track}
 use Rattle.state.specs.Track.{cyclesOf}
 use Rattle.state.specs.Tests.{okLent}
+use Rattle.state.proofs.Lent.{lent-lone, lent-cycles}
 use Rattle.cycling.specs.Calls.{usedOf, leftBy, inOrder, cycleRefusal}
 use Rattle.cycling.specs.Series.{Lent, answerTo, leftTo, after, Each, Accepted, seen, turnOn}
-use Rattle.cycling.proofs.Refusing.{left-length, lent-lone, lent-cycles, is-lent}
+use Rattle.cycling.proofs.Refusing.{left-length, is-lent}
 use Rattle.cycling.proofs.Calling.{code-is, unmoved, seen-next}
 use Rattle.cycling.proofs.Keeping.{Well, was-well, rules as well-kept, well-next, list-long}
 

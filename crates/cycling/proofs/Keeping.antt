@@ -13,6 +13,7 @@ use Rattle.laws.specs.Keys.{distinct}
 use Rattle.laws.specs.Lists.{all, counted, putFirst}
 use Rattle.laws.proofs.Ranges.{left, right}
 use Rattle.laws.proofs.Rows.{length-flat}
+use Rattle.laws.proofs.Firsts.{length-putFirst}
 use Rattle.numbers.specs.Limits.{places, valueBytes, byteLimit}
 use Rattle.numbers.specs.Ranges.{isTime, isBytes}
 use Rattle.budget.specs.declared.Budget.{Budget}
@@ -29,15 +30,15 @@ use Rattle.cycles.specs.Rules.{okCycle, keysOf, okTable}
 use Rattle.cycles.specs.Calls.{State, Turn, limit, wrote, pushAll, share, moved, call}
 use Rattle.cycles.proofs.Keeping.{keys-leaves, table-kept}
 use Rattle.cycles.proofs.Push.{call-one-pass}
-use Rattle.cycles.proofs.Running.{length-putFirst}
 use Rattle.tables.specs.Tables.{noteKeys, waveKeys, sineKeys, okCycles, lone}
 use Rattle.tables.proofs.Keeping.{cycle-rules}
 use Rattle.state.specs.declared.Track.{Track}
 use Rattle.state.specs.Track.{cyclesOf}
 use Rattle.state.specs.Tests.{okLent}
+use Rattle.state.proofs.Lent.{lent-lone, lent-track, lent-cycles}
 use Rattle.cycling.specs.Calls.{usedOf}
 use Rattle.cycling.specs.Series.{Lent, answerTo, leftTo, seen, turnOn}
-use Rattle.cycling.proofs.Refusing.{lent-lone, lent-track, lent-cycles, is-time, is-lent, is-budget, listed, allowed, roomy, list-left}
+use Rattle.cycling.proofs.Refusing.{is-time, is-lent, is-budget, listed, allowed, roomy, list-left}
 use Rattle.cycling.proofs.Calling as C
 
 -- ---- the budget

@@ -9,7 +9,7 @@ use lib.Dec.{eqb, ltb}
 use lib.IntN.{ℤ}
 use lib.ListN.{length, drop}
 use lib.Seq.{length-take-le}
-use Rattle.laws.specs.Lists.{counted, putFirst}
+use Rattle.laws.specs.Lists.{putFirst}
 use Rattle.laws.specs.Rows.{flat}
 use Rattle.laws.proofs.Ranges.{left, right}
 use Rattle.numbers.specs.Limits.{places}
@@ -23,13 +23,10 @@ use Rattle.eventlist.specs.Sound.{isList}
 use Rattle.eventlist.proofs.EventRows.{length-rowsOf}
 use Rattle.eventlist.proofs.Sound.{list-within}
 use Rattle.cycles.specs.declared.Cycle.{Cycle}
-use Rattle.cycles.specs.Rules.{okCycle}
 use Rattle.cycles.specs.Turns.{turn, optionOf, calledState}
 use Rattle.cycles.proofs.Push.{call-count}
-use Rattle.tables.specs.Tables.{okCycles, lone}
 use Rattle.state.specs.declared.Track.{Track}
-use Rattle.state.specs.Track.{cyclesOf}
-use Rattle.state.specs.Tests.{okTrack, okLent}
+use Rattle.state.specs.Tests.{okLent}
 use Rattle.cycling.specs.Calls.{usedOf, leftBy, inOrder, gainsOf, cycleRefusal, quickRefusal, cycledOf, cycledList}
 
 -- ---- the three tests
@@ -48,28 +45,6 @@ passed-7 true true true e = absurd (omega arith)
 passed-7 true true false e = refl
 passed-7 true false r e = absurd (omega arith)
 passed-7 false q r e = absurd (omega arith)
-
--- ---- what a table that is lent with its track is
-
-module _ (a : Track) (cs : List Cycle) (e : okLent a cs ≡ true) where
-  abbrev own : Bool
-  own = okCycles (cyclesOf a cs)
-
-  pub lent-lone : lone (a .notes) (a .waves) (a .sines) (cyclesOf a cs) ≡ true
-  unfolding okLent
-  lent-lone = right (okTrack a && own) (lone (a .notes) (a .waves) (a .sines) (cyclesOf a cs)) e
-
-  pub lent-track : okTrack a ≡ true
-  unfolding okLent
-  lent-track = left (okTrack a) own (left (okTrack a && own) (lone (a .notes) (a .waves) (a .sines) (cyclesOf a cs)) e)
-
-  pub lent-cycles : okCycles (cyclesOf a cs) ≡ true
-  unfolding okLent
-  lent-cycles = right (okTrack a) own (left (okTrack a && own) (lone (a .notes) (a .waves) (a .sines) (cyclesOf a cs)) e)
-
-  pub lent-counted : counted (a .cycles) places okCycle cs ≡ true
-  unfolding okCycles
-  lent-counted = lent-cycles
 
 -- the tests behind 4
 module _ (a : Track) (cs : List Cycle) (until : ℤ) (b : Budget) (e : (isTime until && okLent a cs && okBudget b) ≡ true) where

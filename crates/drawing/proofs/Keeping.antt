@@ -10,11 +10,13 @@ use lib.IntN.{ℤ, pos}
 use lib.ListN.{take}
 use Rattle.laws.specs.Lists.{all, counted, over}
 use Rattle.laws.proofs.Ranges.{left, right}
+use Rattle.laws.proofs.Parts.{all-map, all-set}
 use Rattle.numbers.specs.Limits.{places}
 use Rattle.numbers.specs.Ranges.{isTarget, isNumber, isLength, isRandom}
 use Rattle.counted.specs.Numbers.{okNumbers}
 use Rattle.values.specs.declared.WriteOption.{WriteOption}
 use Rattle.values.specs.Options.{okOption}
+use Rattle.values.proofs.Options.{option-ranged, option-repeat, option-ends, option-delay, option-random, option-whole}
 use Rattle.cycles.specs.Due.{key}
 use Rattle.tables.specs.declared.OnNoteValues.{OnNoteValues}
 use Rattle.tables.specs.declared.NoteTable.{NoteTable}
@@ -25,9 +27,10 @@ use Rattle.state.specs.declared.TrackAnswer.{TrackAnswer}
 use Rattle.state.specs.Tests.{okPlay, okOptions, okTables, okTrack}
 use Rattle.state.proofs.Parts.{whole, track-play, track-params, track-layers, track-options, track-tables, track-cycles}
 use Rattle.state.proofs.Stored.{stored-notes, stored-waves, stored-sines, stored-lone}
+use Rattle.state.proofs.Answers.{code-of}
 use Rattle.drawing.specs.Options.{targetRefusal, optionOf, withOption, left as leaving, withDelay, withRandom, withRange, withRepeat, setDelay, setRandom, setRange, clearRange, turned, notesTurned, withRepeating, setRepeat}
-use Rattle.drawing.proofs.Refusing.{code-of, settled, usable}
-use Rattle.drawing.proofs.Options.{option-ranged, option-repeat, option-ends, option-delay, option-random, option-whole, option-well, all-set}
+use Rattle.drawing.proofs.Refusing.{settled, usable}
+use Rattle.drawing.proofs.Options.{option-well}
 
 -- ---- a call that is not refused was allowed
 opened : (p q r : Bool) → _≡_ {A = ℕ} (cond p (cond (q && r) 0 4) 2) 0 → r ≡ true
@@ -88,11 +91,6 @@ module _ {A : Type 0} where
   take-over f (suc n) [] = refl
   take-over f (suc n) (x ∷ l) = ap (λ (r : List A). f x ∷ r) (take-over f n l)
 
-  all-map : (p : A → Bool) (f : A → A) → ((x : A) → p x ≡ true → p (f x) ≡ true) → (l : List A) → all p l ≡ true → all p (map f l) ≡ true
-  unfolding all
-  all-map p f h [] e = refl
-  all-map p f h (x ∷ l) e = rw (h x (left (p x) (all p l) e)) (all-map p f h l (right (p x) (all p l) e))
-
 module _ (k n : ℕ) (few : leb n 1 ≡ true) where
   turned-well : (v : OnNoteValues) → okValues v ≡ true → okValues (turned k n v) ≡ true
   unfolding okValues turned
@@ -114,7 +112,7 @@ module _ (k n : ℕ) (few : leb n 1 ≡ true) where
     unfolding okNotes counted notesTurned
     notes-well e =
         let used = take (t .count) (t .items) in
-        rw (left (leb (t .count) places) (all okValues used) e) (ap (all okValues) lists ∙ all-map okValues (turned k n) turned-well used (right (leb (t .count) places) (all okValues used) e))
+        rw (left (leb (t .count) places) (all okValues used) e) (ap (all okValues) lists ∙ all-map okValues okValues (turned k n) turned-well used (right (leb (t .count) places) (all okValues used) e))
 
     same-keys : (l : List OnNoteValues) → map (λ (v : OnNoteValues). key (v .target)) (map (turned k n) l) ≡ map (λ (v : OnNoteValues). key (v .target)) l
     unfolding turned

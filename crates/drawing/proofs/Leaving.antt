@@ -6,18 +6,20 @@
 --     budget-passes               the budget
 use mathlib.Core.Path.{_≡_, refl, sym, ap, _∙_}
 use mathlib.Core.Bool.{Bool, true, false, cond, _&&_, true≢false}
-use mathlib.Core.List.{List, [], _∷_, _++_}
-use Prim.Native.Nat.{ℕ, _+_, _-_, _*_, _/_, _%_, _≤_, _^_}
+use mathlib.Core.List.{List, [], _∷_}
+use Prim.Native.Nat.{ℕ, _-_, _*_, _/_, _%_, _≤_, _^_}
 use native.Mathlib.Omega.{arith}
 use borrow.Author.Tests.{leb-true, le-leb, eq-eqb, ltb-false}
 use lib.Dec.{leb, ltb}
 use lib.IntN.{ℤ, pos, negsuc}
 use lib.ListN.{length}
 use Rattle.laws.specs.Integers.{inside}
-use Rattle.laws.specs.Lists.{all, unless, without, putFirst}
+use Rattle.laws.specs.Lists.{all, putFirst}
 use Rattle.laws.proofs.Ranges.{left, right}
+use Rattle.laws.proofs.Parts.{all-append, all-without}
 use Rattle.laws.proofs.Tests.{both}
 use Rattle.laws.proofs.Rows.{length-flat}
+use Rattle.laws.proofs.Firsts.{length-putFirst}
 use Rattle.numbers.specs.Limits.{byteLimit}
 use Rattle.numbers.specs.Ranges.{isController, isChannel, isWord, isBytes, isEventTime}
 use Rattle.budget.specs.declared.Budget.{Budget}
@@ -34,7 +36,6 @@ use Rattle.values.specs.Options.{moved}
 use Rattle.values.specs.Clamp.{topOf, clamped}
 use Rattle.values.specs.Value.{controllerEvent, bendEvent, eventFor, timeOf, eventOfOffer}
 use Rattle.values.proofs.Clamping.{clamped-in}
-use Rattle.cycles.proofs.Running.{length-putFirst}
 use Rattle.tables.specs.declared.OnNoteSine.{OnNoteSine}
 use Rattle.offers.specs.Rules.{ruleOf, spent}
 use Rattle.offers.specs.Runs.{offered, budgetAfter}
@@ -53,20 +54,6 @@ use Rattle.drawing.proofs.Promises.{accepted-as, accepted-left, passed-
 
 -- ---- lists of which a test holds
 module _ {A : Type 0} (p : A → Bool) where
-  all-without : (out : A → Bool) (l : List A) → all p l ≡ true → all p (without out l) ≡ true
-  unfolding all
-  all-without out [] e = refl
-  all-without out (x ∷ l) e = go (out x) (all-without out l (right (p x) (all p l) e))
-    where
-      go : (t : Bool) → all p (without out l) ≡ true → all p (unless t x (without out l)) ≡ true
-      go true ih = ih
-      go false ih = rw (left (p x) (all p l) e) ih
-
-  all-append : (xs ys : List A) → all p xs ≡ true → all p ys ≡ true → all p (xs ++ ys) ≡ true
-  unfolding all
-  all-append [] ys a b = b
-  all-append (x ∷ xs) ys a b = rw (left (p x) (all p xs) a) (all-append xs ys (right (p x) (all p xs) a) b)
-
   -- where another test holds of each too
   all-given : (q : A → Bool) (l : List A) → Each (λ (x : A). q x ≡ true → p x ≡ true) l → all q l ≡ true → all p l ≡ true
   unfolding all

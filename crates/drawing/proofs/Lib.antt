@@ -2,7 +2,6 @@ pub mod Refusing
 pub mod Asking
 pub mod Listed
 pub mod Drawn
-pub mod Sines
 pub mod Options
 pub mod Keeping
 pub mod Promises

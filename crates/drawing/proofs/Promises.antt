@@ -34,7 +34,9 @@ use Rattle.eventlist.specs.Rows.{numbersOf, rowsOf, eventsOf}
 use Rattle.eventlist.specs.Sound.{isList}
 use Rattle.eventlist.specs.Windows.{takenBy}
 use Rattle.eventlist.proofs.EventRows.{rowsOf-flat}
+use Rattle.values.proofs.Options.{option-delay}
 use Rattle.tables.specs.declared.OnNoteSine.{OnNoteSine}
+use Rattle.tables.proofs.Sines.{sine-length, sine-times}
 use Rattle.offers.specs.Pieces.{total}
 use Rattle.writing.specs.declared.Outcome.{Outcome}
 use Rattle.writing.specs.Calls.{windowOf}
@@ -49,8 +51,7 @@ use Rattle.drawing.specs.Options.{optionOf}
 use Rattle.drawing.specs.Write.{writeOf}
 use Rattle.drawing.specs.Calls.{inOrder, Draw, drawWrite, drawOffers, drawAdded, drawEvents, drawBudget, drawNumbers, drawLacks, drawRefusal, drawAnswer, drawLeft, Drawn, onTime, ccTarget, pbTarget, onSine}
 use Rattle.drawing.proofs.Asking.{some}
-use Rattle.drawing.proofs.Options.{option-well, option-delay}
-use Rattle.drawing.proofs.Sines.{sine-length, sine-times}
+use Rattle.drawing.proofs.Options.{option-well}
 use Rattle.drawing.proofs.Drawn.{asked-draw, well, seven, track-well, allowed-well, count-well, tried}
 
 -- what is asked first was passed where all is

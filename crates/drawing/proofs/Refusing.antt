@@ -1,7 +1,7 @@
 -- The refusals of a call on a target, read off its tests in their order.
 use mathlib.Core.Path.{_≡_, refl}
 use mathlib.Core.Bool.{Bool, true, false, cond, _&&_}
-use Prim.Native.Nat.{ℕ, zero, suc}
+use Prim.Native.Nat.{ℕ}
 use native.Mathlib.Omega.{arith}
 use borrow.Author.Tests.{ne-eqb}
 use lib.IntN.{ℤ}
@@ -32,11 +32,6 @@ with-true {b = false} e = e
 
 -- what the number of an answer says
 module _ (a b : Track) where
-  pub code-of : (n : ℕ) → answered n a b .code ≡ n
-  unfolding answered
-  code-of zero = refl
-  code-of (suc n) = rw (ne-eqb (suc n) 0 (λ (e : suc n ≡ 0). omega (arith, e)))
-
   pub unmoved : (b′ : Track) (n : ℕ) → (n ≡ 0 → ⊥) → answered n a b ≡ answered n a b′
   unfolding answered
   unmoved b′ n h = rw (ne-eqb n 0 h)

@@ -25,33 +25,22 @@ use Rattle.layers.specs.declared.Layers.{Layers}
 use Rattle.layers.specs.declared.LayersAnswer.{LayersAnswer}
 use Rattle.layers.specs.Layers.{okLayer, okLayers, changed, valueSet, randomSet, reserveSet}
 use Rattle.layers.specs.Calls.{layerDemand, answered, setVSub, setVSubRandom, setVSubOnTime, setVSubOnCycle, setVSubOnNote}
+use Rattle.layers.proofs.Parts.{layer-value, layer-random, layer-reserve}
 use Rattle.layers.proofs.Grown.{changed-kept}
 
 -- ---- one layer
 module _ (a : Layer) (e : okLayer a ≡ true) where
-  value-ok : isNumber (a .value) ≡ true
-  unfolding okLayer
-  value-ok = left (isNumber (a .value)) (isRandom (a .random)) (left (isNumber (a .value) && isRandom (a .random)) (okReserve (a .reserve)) e)
-
-  random-ok : isRandom (a .random) ≡ true
-  unfolding okLayer
-  random-ok = right (isNumber (a .value)) (isRandom (a .random)) (left (isNumber (a .value) && isRandom (a .random)) (okReserve (a .reserve)) e)
-
-  reserve-ok : okReserve (a .reserve) ≡ true
-  unfolding okLayer
-  reserve-ok = right (isNumber (a .value) && isRandom (a .random)) (okReserve (a .reserve)) e
-
   value-set : (v : ℤ) → isNumber v ≡ true → okLayer (valueSet v a) ≡ true
   unfolding okLayer
-  value-set v h = rw (h, random-ok, idle-ok)
+  value-set v h = rw (h, layer-random a e, idle-ok)
 
   random-set : (n : ℤ) → isRandom n ≡ true → okLayer (randomSet n a) ≡ true
   unfolding okLayer
-  random-set n h = rw (value-ok, h, reserve-ok)
+  random-set n h = rw (layer-value a e, h, layer-reserve a e)
 
   reserve-set : (r : Reserve) → okReserve r ≡ true → okLayer (reserveSet r a) ≡ true
   unfolding okLayer
-  reserve-set r h = rw (value-ok, random-ok, h)
+  reserve-set r h = rw (layer-value a e, layer-random a e, h)
 
 -- ---- a call that does not refuse passed its tests
 passed : (ok high : Bool) → _≡_ {A = ℕ} (cond ok (cond high 5 0) 4) 0 → (ok ≡ true) × (high ≡ false)

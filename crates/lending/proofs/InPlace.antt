@@ -16,6 +16,7 @@ use Rattle.laws.specs.Lists.{counted, putFirst}
 use Rattle.laws.specs.Rows.{flat}
 use Rattle.laws.proofs.Ranges.{left, right}
 use Rattle.laws.proofs.Rows.{length-flat}
+use Rattle.laws.proofs.Firsts.{length-putFirst}
 use Rattle.numbers.specs.Limits.{places}
 use Rattle.numbers.specs.Ranges.{isTime}
 use Rattle.budget.specs.declared.Budget.{Budget}
@@ -36,12 +37,12 @@ use Rattle.cycles.specs.Rules.{okCycle}
 use Rattle.cycles.specs.Turns.{askFor, calledOf}
 use Rattle.cycles.proofs.Keeping.{length-leaves}
 use Rattle.cycles.proofs.Placing as P
-use Rattle.cycles.proofs.Running.{length-putFirst}
 use Rattle.state.specs.declared.Track.{Track}
 use Rattle.state.specs.Tests.{okLent}
+use Rattle.state.proofs.Lent.{lent-counted}
 use Rattle.cycling.specs.declared.Cycled.{Cycled}
 use Rattle.cycling.specs.Calls.{roundOf, leftBy, gainsOf, inOrder, cycleRefusal, quickRefusal, cycledOf, cycledList}
-use Rattle.cycling.proofs.Refusing.{quick, refused, listed, allowed, roomy, answer, list-left, is-time, is-lent, lent-counted, passed-1}
+use Rattle.cycling.proofs.Refusing.{quick, refused, listed, allowed, roomy, answer, list-left, is-time, is-lent, passed-1}
 use Rattle.cycling.proofs.Calling.{front}
 use Rattle.lending.specs.declared.Going.{Going}
 use Rattle.lending.specs.declared.Job.{Job}

@@ -23,7 +23,6 @@ use Rattle.cycles.specs.Due.{writeOf, advanced, run, after, gap, steps, dueCoun
 use Rattle.cycles.specs.Rules.{okCycle}
 use Rattle.cycles.specs.Calls.{limit, wrote, push, share, moved as tableMoved, call}
 use Rattle.cycles.specs.Turns.{turn, calledState}
-use Rattle.cycles.proofs.Cases.{at}
 use Rattle.tables.specs.Tables.{okCycles, lone}
 use Rattle.state.specs.declared.Track.{Track}
 use Rattle.state.specs.Track.{newTrack}
@@ -31,7 +30,7 @@ use Rattle.state.specs.Tests.{okPlay, okTrack, okLent}
 use Rattle.state.proofs.New.{new-passes}
 use Rattle.state.proofs.Parts.{whole, track-play, track-params, track-layers, track-options, track-tables}
 use Rattle.cycling.specs.Calls.{cycleRefusal, cycledOf, cycledList}
-use Rattle.marked.specs.Subjects.{cycling, table, room, cycled}
+use Rattle.marked.specs.Subjects.{at, cycling, table, room, cycled}
 
 abbrev fresh : Track
 fresh = newTrack (pos 96) (pos 0)

@@ -14,12 +14,11 @@ use Rattle.values.specs.Clamp.{clamped}
 use Rattle.offers.specs.declared.Mode.the-variants.{Expand}
 use Rattle.offers.specs.Waves.{triplesOf}
 use Rattle.writing.proofs.Cases.{lens}
-use Rattle.cycles.proofs.Cases.{at}
 use Rattle.cutting.specs.Cuts.{plain, whole, cutTaken, cutLeft}
 use Rattle.cutting.proofs.Marked.{volume}
 use Rattle.drawing.specs.Calls.{drawAnswer, drawLeft}
 use Rattle.cycling.specs.Calls.{cycledOf, cycledList}
-use Rattle.marked.specs.Subjects.{drawn, threeAndRoom, threeWritten, cycling, table, room, cycled, twice, bothLeft}
+use Rattle.marked.specs.Subjects.{drawn, threeAndRoom, threeWritten, cycling, table, at, room, cycled, twice, bothLeft}
 
 pub record Marked : Type 0 where
   -- Seed 1 steps to 270369; value 64, random 10 gives 68.

@@ -7,9 +7,11 @@ use Rattle.laws.specs.Rows.{flat}
 use Rattle.budget.specs.declared.Budget.{Budget}
 use Rattle.budget.specs.Budgets.{unspent}
 use Rattle.counted.specs.Numbers.{numbers}
+use Rattle.events.specs.declared.Event.{Event}
 use Rattle.eventlist.specs.declared.Taken.{Taken}
 use Rattle.eventlist.specs.Rows.{numbersOf}
 use Rattle.cutting.proofs.Marked.{volume}
+use Rattle.values.specs.Value.{controllerEvent}
 use Rattle.cycles.specs.declared.Cycle.{Cycle}
 use Rattle.tables.specs.Tables.{noCycle}
 use Rattle.writing.specs.declared.Outcome.{Outcome}
@@ -38,6 +40,10 @@ cycling = withTables (newTrack (pos 96) (pos 0)) noNotes noWaves noSines 1
 abbrev pub table : ℤ → ℕ → List Cycle
 table n i =
     record { target = pos 11; length = pos 24; next = n; index = i; values = numbers (pos 10 ∷ pos 20 ∷ pos 30 ∷ []) } ∷ replicate 15 noCycle
+
+-- what one of its writes leaves
+abbrev pub at : ℕ → ℕ → Event
+at time value = controllerEvent (pos time) (pos 0) (pos 11) (pos value)
 
 abbrev pub room : List ℤ
 room = replicate 40 (pos 0)

@@ -2,7 +2,7 @@
 // track does not hold.
 ghost use mathlib.Core.Path.{_≡_};
 ghost use mathlib.Core.Bool.{true};
-ghost use Prim.Native.Nat.{_*_, _≤_, _<_, _^_};
+ghost use Prim.Native.Nat.{_≤_, _<_, _^_};
 ghost use lib.Signed.{mag};
 ghost use lib.ListN.{length};
 ghost use Rattle.laws.specs.Lists.{all, putFirst};

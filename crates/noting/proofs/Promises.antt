@@ -7,28 +7,29 @@
 --     in-time    each event's time is in the range of event times
 --     refused    a refused call leaves all as it was given
 use mathlib.Core.Path.{_≡_, refl, sym, ap, _∙_}
-use mathlib.Core.Bool.{Bool, true, false, cond, _&&_, _||_, true≢false}
+use mathlib.Core.Bool.{Bool, true, false, cond, true≢false}
 use mathlib.Core.List.{List, [], _∷_, _++_, map, append-nil, append-assoc}
 use Prim.Native.Nat.{ℕ, zero, suc, _+_, _*_, _≤_, _^_}
 use native.Mathlib.Omega.{arith}
 use borrow.Author.Tests.{ne-eqb, leb-true, leb-false}
-use lib.Dec.{eqb, leb}
+use lib.Dec.{eqb}
 use lib.IntN.{ℤ, pos, _+ℤ_}
-use lib.ListN.{length, getD, length-map}
-use Rattle.laws.specs.Integers.{inside, sized}
+use lib.ListN.{length, length-map}
+use Rattle.laws.specs.Integers.{sized}
 use Rattle.laws.specs.Lists.{all, unless, without}
-use Rattle.laws.proofs.Ranges.{left, right, sized-mag, sized-small}
+use Rattle.laws.proofs.Ranges.{sized-mag, sized-small}
 use Rattle.laws.proofs.Signed.{mag-add}
 use Rattle.numbers.specs.Limits.{valueBytes}
-use Rattle.numbers.specs.Ranges.{isController, isTime, isLength, isRandom, isNumber, isEventTime}
+use Rattle.numbers.specs.Ranges.{isController, isTime, isLength, isEventTime}
 use Rattle.budget.specs.declared.Budget.{Budget}
 use Rattle.budget.specs.Budgets.{free, fits, okBudget}
 use Rattle.budget.proofs.Spending.{keeps-ok}
 use Rattle.events.specs.declared.Event.{Event}
 use Rattle.eventlist.specs.Rows as rows
 use Rattle.values.specs.declared.WriteOption.{WriteOption}
-use Rattle.values.specs.Options.{newOption, okOption}
+use Rattle.values.specs.Options.{okOption}
 use Rattle.values.specs.Value.{controllerEvent, bendEvent, eventFor, startOf, timeOf, eventOfOffer, wroteOf}
+use Rattle.values.proofs.Options.{option-at, option-delay}
 use Rattle.cycles.specs.Due.{DueWrite, key}
 use Rattle.cycles.specs.Calls.{State, Turn, wrote, push, eventsOf}
 use Rattle.cycles.specs.Turns.{turn, optionOf}
@@ -223,18 +224,6 @@ event-time target time channel v = go (isController target)
     go true = refl
     go false = refl
 
-ok-at : (l : List WriteOption) (i : ℕ) → all okOption l ≡ true → okOption (getD l i newOption) ≡ true
-unfolding all okOption isLength isRandom sized inside
-ok-at [] i h = refl
-ok-at (o ∷ l) zero h = left (okOption o) (all okOption l) h
-ok-at (o ∷ l) (suc i) h = ok-at l i (right (okOption o) (all okOption l) h)
-
-delay-ok : (o : WriteOption) → okOption o ≡ true → isLength (o .delay) ≡ true
-unfolding okOption
-delay-ok o h =
-    let three = leb (o .ranged) 1 && leb (o .repeat) 1 && (eqb (o .ranged) 0 || (isNumber (o .low) && isNumber (o .high))) in
-    right three (isLength (o .delay)) (left (three && isLength (o .delay)) (isRandom (o .random)) h)
-
 timed : (o : WriteOption) (at : Onset) (b : Budget) (e : OnNoteValues) → isTime (at .start) ≡ true → isLength (o .delay) ≡ true → isEventTime (wroteAt o at b e .event .time) ≡ true
 unfolding wroteAt wroteOf eventOfOffer timeOf startOf isTime isLength isEventTime
 timed o at b e t d =
@@ -252,7 +241,7 @@ module _ (options : List WriteOption) (at : Onset) (ok : all okOption options �
       (λ b. refl)
       (λ b e es s ih. ih)
       (λ b e es s q ih.
-      rw (timed (optionOf options (e .target)) at b e t (delay-ok (optionOf options (e .target)) (ok-at options (key (e .target)) ok))) ih)
+      rw (timed (optionOf options (e .target)) at b e t (option-delay (optionOf options (e .target)) (option-at options (key (e .target)) ok))) ih)
       (λ b e es s q. refl)
 
 -- ---- refused

@@ -3,7 +3,7 @@
 --     some          the place of its value is there
 --     kept-values   one further it still passes
 use mathlib.Core.Path.{_≡_, refl}
-use mathlib.Core.Bool.{Bool, true, false, cond, _&&_, _||_, true≢false}
+use mathlib.Core.Bool.{Bool, true, false, cond, _&&_, true≢false}
 use Prim.Native.Nat.{ℕ, zero, suc, _+_, _≤_, _<_}
 use native.Mathlib.Omega.{arith}
 use borrow.Author.Tests.{leb-true, leb-false, le-leb}
@@ -18,6 +18,7 @@ use Rattle.numbers.specs.Limits.{listLimit, places}
 use Rattle.numbers.specs.Ranges.{isTarget}
 use Rattle.counted.specs.Numbers.{okNumbers}
 use Rattle.counted.proofs.Counted.{numbers-count}
+use Rattle.reserved.proofs.Cycles.{or-left}
 use Rattle.tables.specs.declared.OnNoteValues.{OnNoteValues}
 use Rattle.tables.specs.declared.NoteTable.{NoteTable}
 use Rattle.tables.specs.Reservations.{okValues}
@@ -63,13 +64,9 @@ place-few e s = go (atEnd e)
     go true = omega arith
     go false = omega (arith, s .placed)
 
-neither : (a b : Bool) → (a || b) ≡ false → a ≡ false
-neither true b h = h
-neither false b h = refl
-
 pub some : (e : OnNoteValues) → silent e ≡ false → placeOf e < e .values .count
 unfolding silent placeOf
-some e h = go (atEnd e) (leb-false (e .values .count) (e .index)) (any (e .values .count) (neither (eqb (e .values .count) 0) _ h))
+some e h = go (atEnd e) (leb-false (e .values .count) (e .index)) (any (e .values .count) (or-left (eqb (e .values .count) 0) _ h))
   where
     any : (n : ℕ) → eqb n 0 ≡ false → 0 < n
     any zero q = absurd (true≢false q)

@@ -3,17 +3,19 @@
 --     track-kept   of a track
 --     lent-kept    of a track and its cycle table
 use mathlib.Core.Path.{_≡_, refl, sym, ap, _∙_}
-use mathlib.Core.Bool.{Bool, true, false, cond, not, _&&_}
+use mathlib.Core.Bool.{Bool, true, false, cond}
 use mathlib.Core.List.{List, [], _∷_, _++_, map, append-assoc}
 use Prim.Native.Nat.{ℕ, _≤_}
 use native.Mathlib.Omega.{arith}
-use lib.Dec.{eqb}
 use lib.IntN.{ℤ}
 use lib.ListN.{length, take, length-take}
-use Rattle.laws.specs.Lists.{all, unless, without}
-use Rattle.laws.specs.Keys.{absent, distinct}
+use Rattle.laws.specs.Lists.{all, without}
+use Rattle.laws.specs.Keys.{distinct}
 use Rattle.laws.proofs.Ranges.{left, right}
 use Rattle.laws.proofs.Compact.{length-without}
+use Rattle.laws.proofs.Parts.{all-without}
+use Rattle.laws.proofs.Lone.{distinct-amid}
+use Rattle.laws.proofs.Firsts.{shown, counted-put}
 use Rattle.numbers.specs.Limits.{places}
 use Rattle.budget.specs.declared.Budget.{Budget}
 use Rattle.values.specs.declared.WriteOption.{WriteOption}
@@ -23,54 +25,19 @@ use Rattle.tables.specs.declared.OnNoteValues.{OnNoteValues}
 use Rattle.tables.specs.declared.NoteTable.{NoteTable}
 use Rattle.tables.specs.declared.CycleTable.{CycleTable}
 use Rattle.tables.specs.Reservations.{okValues}
-use Rattle.tables.specs.Tables.{noNote, okNotes, okCycles, noteKeys, waveKeys, sineKeys, cycleKeys, lone}
-use Rattle.tables.proofs.Keeping.{shown, counted-put}
+use Rattle.tables.specs.Tables.{noNote, okNotes, noteKeys, waveKeys, sineKeys, cycleKeys, lone}
 use Rattle.state.specs.declared.Track.{Track}
 use Rattle.state.specs.Track.{noCycles, cyclesOf}
 use Rattle.state.specs.Tests.{okPlay, okTables, okTrack, okLent}
 use Rattle.state.proofs.Parts.{whole, track-play, track-params, track-layers, track-options, track-cycles}
 use Rattle.state.proofs.Stored.{stored-lone, stored-notes, stored-waves, stored-sines, notes-few}
+use Rattle.state.proofs.Lent.{lent-track, lent-cycles, lent-lone, lent-whole}
 use Rattle.noting.specs.declared.Onset.{Onset}
 use Rattle.noting.specs.Lists.{advanced, spent}
 use Rattle.noting.specs.Runs.{Run, run, kept, notesPut}
 use Rattle.noting.specs.Calls.{runOf, withNotes}
 use Rattle.noting.proofs.Rules.{kept-values, listed}
 use Rattle.noting.proofs.Playing.{run-cases, run-long}
-
--- ---- of a list from which some are taken out
-all-without : {A : Type 0} (p out : A → Bool) (l : List A) → all p l ≡ true → all p (without out l) ≡ true
-unfolding all
-all-without p out [] h = refl
-all-without p out (x ∷ l) h = go (out x) (all-without p out l (right (p x) (all p l) h))
-  where
-    go : (t : Bool) → all p (without out l) ≡ true → all p (unless t x (without out l)) ≡ true
-    go true ih = ih
-    go false ih = rw (left (p x) (all p l) h) ih
-
-absent-fewer : {A : Type 0} (f : A → ℕ) (out : A → Bool) (k : ℕ) (l : List A) (ks : List ℕ) → absent k (map f l ++ ks) ≡ true → absent k (map f (without out l) ++ ks) ≡ true
-unfolding absent all
-absent-fewer f out k [] ks h = h
-absent-fewer f out k (x ∷ l) ks h =
-    let here = not (eqb k (f x)) in
-    let rest = all (λ (j : ℕ). not (eqb k j)) (map f l ++ ks) in
-    go (out x) (absent-fewer f out k l ks (right here rest h)) (left here rest h)
-  where
-    go : (t : Bool) → absent k (map f (without out l) ++ ks) ≡ true → not (eqb k (f x)) ≡ true → absent k (map f (unless t x (without out l)) ++ ks) ≡ true
-    go true ih a = ih
-    go false ih a = rw a ih
-
--- keys of which each stood once still do
-distinct-fewer : {A : Type 0} (f : A → ℕ) (out : A → Bool) (l : List A) (ks : List ℕ) → distinct (map f l ++ ks) ≡ true → distinct (map f (without out l) ++ ks) ≡ true
-unfolding distinct
-distinct-fewer f out [] ks h = h
-distinct-fewer f out (x ∷ l) ks h =
-    let here = absent (f x) (map f l ++ ks) in
-    let rest = distinct (map f l ++ ks) in
-    go (out x) (distinct-fewer f out l ks (right here rest h)) (absent-fewer f out (f x) l ks (left here rest h))
-  where
-    go : (t : Bool) → distinct (map f (without out l) ++ ks) ≡ true → absent (f x) (map f (without out l) ++ ks) ≡ true → distinct (map f (unless t x (without out l)) ++ ks) ≡ true
-    go true ih a = ih
-    go false ih a = rw a ih
 
 -- ---- of a run
 abbrev keyOf : OnNoteValues → ℕ
@@ -119,7 +86,7 @@ module _ (r : Run) where
     where
       go : (t : Bool) → distinct (map keyOf (cond t (r .lists) (without spent (r .lists))) ++ ks) ≡ true
       go true = h
-      go false = distinct-fewer keyOf spent (r .lists) ks h
+      go false = distinct-amid keyOf spent [] (r .lists) ks h
 
 apart : (a b c d : List ℕ) → (a ++ b ++ c ++ d) ≡ a ++ (b ++ (c ++ d))
 apart a b c d = append-assoc (a ++ b) c d ∙ append-assoc a b (c ++ d)
@@ -167,10 +134,7 @@ module _ (a : Track) (start : ℤ) (b : Budget) (e : okTrack a ≡ true) where
 
 -- the same of a track and the cycle table that is lent with it to other calls
 pub lent-kept : (a : Track) (start : ℤ) (b : Budget) (cs : List Cycle) → okLent a cs ≡ true → okLent (withNotes a (notesPut (a .notes) (kept (runOf a start b)))) cs ≡ true
-unfolding okLent
 lent-kept a start b cs h =
-    let own = cyclesOf a cs in
-    let alone = lone (a .notes) (a .waves) (a .sines) own in
-    let two = left (okTrack a && okCycles own) alone h in
-    let e = left (okTrack a) (okCycles own) two in
-    rw (track-kept a start b e, right (okTrack a) (okCycles own) two) (lone-kept a start b e own (right (okTrack a && okCycles own) alone h))
+    let e = lent-track a cs h in
+    lent-whole (withNotes a (notesPut (a .notes) (kept (runOf a start b)))) cs
+    (track-kept a start b e) (lent-cycles a cs h) (lone-kept a start b e (cyclesOf a cs) (lent-lone a cs h))

@@ -14,7 +14,7 @@ ghost use Rattle.numbers.specs.Ranges.{isTime};
 ghost use Rattle.events.specs.Events.{zeroEvent};
 ghost use Rattle.eventlist.specs.Rows.{rowsOf, eventsOf};
 ghost use Rattle.tables.specs.Reservations.{okValues};
-ghost use Rattle.tables.specs.Tables.{noNote, okNotes};
+ghost use Rattle.tables.specs.Tables.{okNotes};
 ghost use Rattle.laws.specs.Lists.{without};
 ghost use Rattle.noting.specs.Lists.{silent, placeOf, valueOf, advanced, spent};
 ghost use Rattle.noting.specs.Runs.{wroteAt, stepOf, run, ranOf, playedOf, notesPut};

@@ -1,11 +1,11 @@
 -- Random moves a number by at most half its width, whatever the seed; so a caller that bounds the number and
 -- the width knows that the sum fits. The other laws say of each step of the sum what it is in the definition.
-use mathlib.Core.Path.{_≡_, refl, sym}
-use mathlib.Core.Bool.{Bool, true, false, cond, true≢false}
+use mathlib.Core.Path.{_≡_, refl}
+use mathlib.Core.Bool.{Bool, true, false, true≢false}
 use Prim.Native.Nat.{ℕ, _+_, _/_, _%_, _≤_, _<_, _^_}
 use native.Mathlib.Omega.{arith}
 use native.Mathlib.Nat.{mod-lt}
-use borrow.Author.Tests.{leb-true, leb-false}
+use borrow.Author.Tests.{leb-false}
 use lib.IntN.{ℤ, pos, negsuc, natAbs, _+ℤ_, _-ℤ_}
 use lib.Signed.{mag, leZ, quotZ, remZ}
 use mir.Syntax.{w64}
@@ -13,7 +13,6 @@ use mir.Val.{SFits}
 use Rattle.laws.specs.Integers.{cut}
 use Rattle.laws.proofs.Signed.{mag-move, natAbs-sub}
 use Rattle.numbers.specs.Random.{spread}
-use Rattle.numbers.specs.Ranges.{isRandom}
 
 -- what the value gains where the width is above 0
 abbrev pub gain : ℤ → ℕ → ℤ
@@ -37,15 +36,6 @@ spread-mag v n y = go (leZ n (pos 0)) refl
     go : (t : Bool) → leZ n (pos 0) ≡ t → mag (spread v n y) ≤ mag v + cut n / 2
     go true e = rw (spread-off v n y e) (omega arith)
     go false e = rw (spread-on v n y e) (mag-move v (gain n y) (cut n / 2) (gain-size n y e))
-
-cut-upto : (n : ℤ) (k : ℕ) → leZ n (pos k) ≡ true → cut n ≤ k
-cut-upto (pos n) k e = leb-true n k e
-cut-upto (negsuc n) k e = omega arith
-
--- by a random that the document allows, at most 2^19
-pub spread-allowed : (v n : ℤ) (y : ℕ) → isRandom n ≡ true → mag (spread v n y) ≤ mag v + 2 ^ 19
-unfolding isRandom
-spread-allowed v n y e = omega (arith, spread-mag v n y, cut-upto n (2 ^ 20) e)
 
 -- the code's remainder and half
 pub rem-is : (n : ℤ) (y : ℕ) → leZ n (pos 0) ≡ false → remZ (pos y) n ≡ pos (y % cut n)

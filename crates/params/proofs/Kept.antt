@@ -28,7 +28,7 @@ use Rattle.params.specs.Param.{withReserve, okLimits, okParam}
 use Rattle.params.specs.Calls.{answered, given, clearReserve, setOnTime, setOnCycle, setOnNote, calcOnTime, calcOnNote}
 use Rattle.params.proofs.Calls.{param-reserve, param-delay, param-limits, limits-repeat}
 
-with-kept : (a : NoteParam) (r : Reserve) → okParam a ≡ true → okReserve r ≡ true → okParam (withReserve a r) ≡ true
+pub with-kept : (a : NoteParam) (r : Reserve) → okParam a ≡ true → okReserve r ≡ true → okParam (withReserve a r) ≡ true
 unfolding okParam okLimits
 with-kept a r e h = rw (h, param-delay a e) (param-limits a e)
 

@@ -5,19 +5,15 @@ use Prim.Native.Nat.{ℕ}
 use native.Mathlib.Omega.{arith}
 use lib.Dec.{leb}
 use lib.IntN.{ℤ, pos}
-use Rattle.laws.specs.Integers.{sized, inside}
 use Rattle.laws.proofs.Ranges.{left, right}
 use Rattle.numbers.specs.Ranges.{isNumber, isLength, isRandom}
+use Rattle.numbers.proofs.Tested.{zero-number}
 use Rattle.reserved.specs.Reserve.{okReserve}
 use Rattle.params.specs.declared.NoteParam.{NoteParam}
 use Rattle.params.specs.Param.{withRandom, withRange, withDelay, withMax, withRepeat, isFlag, okLimits, okParam}
 use Rattle.params.specs.Calls.{setRandom, setRange, clearRange, setDelay, setMax, clearMax, setRepeat}
 use Rattle.params.proofs.Calls.{param-reserve, param-delay, param-limits, limits-repeat}
 use Rattle.params.proofs.Kept.{answered-kept}
-
-zero-number : isNumber (pos 0) ≡ true
-unfolding isNumber sized inside
-zero-number = refl
 
 -- each number in range
 made : (a : NoteParam) → okReserve (a .reserve) ≡ true → isLength (a .delay) ≡ true → isRandom (a .random) ≡ true → isFlag (a .ranged) ≡ true → isNumber (a .low) ≡ true → isNumber (a .high) ≡ true → isFlag (a .maxed) ≡ true → isNumber (a .max) ≡ true → isFlag (a .repeat) ≡ true → okParam a ≡ true

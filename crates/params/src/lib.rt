@@ -4,7 +4,7 @@
 ghost use mathlib.Core.Path.{_≡_};
 ghost use Rattle.laws.specs.Integers.{rangeOf};
 ghost use Rattle.params.specs.Param.{fresh, okLimits, okParam, rangeFor, maxFor, inRange, underMax, maxOr, limited};
-ghost use Rattle.params.specs.Calls.{answered, given, told, clearReserve, setOnTime, setOnCycle, setOnNote, calcOnTime, calcOnNote, hasReserve, applyLimit, maximumOr, setRandom, setRange, clearRange, setDelay, setMax, clearMax, setRepeat};
+ghost use Rattle.params.specs.Calls.{clearReserve, setOnTime, setOnCycle, setOnNote, calcOnTime, calcOnNote, hasReserve, applyLimit, maximumOr, setRandom, setRange, clearRange, setDelay, setMax, clearMax, setRepeat};
 use counted::curve_ok;
 use counted::numbers_of;
 use counted::numbers_ok;
@@ -15,7 +15,6 @@ use numbers::is_time;
 use numbers::value_range;
 use reserved::NOTHING;
 use reserved::Reserve;
-use reserved::Taken;
 use reserved::curve_reserve;
 use reserved::cycle_args;
 use reserved::cycle_reserve;

@@ -1,5 +1,4 @@
 -- The answers of the calls, chosen by the number that was asked.
---     refused, done       of a call that leaves a track
 --     unvalued, valued    of a call that gives a value and a track
 --     unsummed, summing   of a call that gives a velocity and a track
 use mathlib.Core.Path.{_≡_, sym, ap, ap₂, _∙_}
@@ -10,7 +9,6 @@ use Rattle.layers.specs.declared.Velocity.{Velocity}
 use Rattle.state.specs.declared.Track.{Track}
 use Rattle.state.specs.Track.{withLayers}
 use Rattle.state.specs.Tests.{okTrack}
-use Rattle.state.specs.Calls.{answer, answered}
 use Rattle.playing.specs.declared.TrackValue.{TrackValue}
 use Rattle.playing.specs.declared.TrackVelocity.{TrackVelocity}
 use Rattle.playing.specs.Calls.{asked, given, summedUp}
@@ -19,14 +17,6 @@ pub ap₃ : {A B C D : Type 0} (f : A → B → C → D) {a a′ : A} {b b′ : 
 ap₃ f {a} {a′} {b} {b′} {c} {c′} p q r = ap₂ (λ x y. f x y c) p q ∙ ap (f a′ b′) r
 
 module _ {m n : ℕ} (e : m ≡ n) (a b : Track) where
-  pub refused : (m ≡ 0 → ⊥) → answer m a ≡ answered n a b
-  unfolding answered
-  refused h = ap (λ (k : ℕ). answer k a) e ∙ rw (ne-eqb n 0 (λ z. h (e ∙ z)))
-
-  pub done : m ≡ 0 → answer 0 b ≡ answered n a b
-  unfolding answered
-  done h = rw (eq-eqb n 0 (sym e ∙ h))
-
   module _ (v : ℤ) where
     abbrev valueless : ℕ → TrackValue
     valueless k = record { code = k; value = pos 0; track = a }

@@ -2,37 +2,19 @@
 --     param-kept, value-kept, layers-kept       a part that passes, put into a track that passes
 --     value-on-time-kept, value-on-note-kept    what a note takes of a parameter
 use mathlib.Core.Path.{_≡_, refl}
-use mathlib.Core.Bool.{Bool, true, false, cond, _&&_}
-use mathlib.Core.List.{List, [], _∷_}
-use Prim.Native.Nat.{ℕ, zero, suc, _+_, _<_}
-use native.Mathlib.Nat.{le-of-suc-le-suc, not-suc-le-zero}
-use native.Mathlib.Omega.{arith}
-use borrow.Author.Tests.{leb-false, le-leb}
-use lib.Dec.{eqb, leb}
+use mathlib.Core.Bool.{Bool, true, false, cond}
+use Prim.Native.Nat.{ℕ}
+use lib.Dec.{eqb}
 use lib.IntN.{ℤ, pos}
-use lib.ListN.{getD, take}
-use Rattle.laws.specs.Integers.{inside, sized}
-use Rattle.laws.specs.Lists.{all, counted}
-use Rattle.laws.proofs.Ranges.{left, right}
-use Rattle.numbers.specs.Limits.{listLimit}
-use Rattle.numbers.specs.Ranges.{isStoredTime, isNumber, isLength}
-use Rattle.counted.specs.declared.Got.the-variants as got
-use Rattle.counted.specs.Numbers.{shown, okNumbers}
-use Rattle.counted.specs.Curves.{triples}
-use Rattle.reserved.specs.declared.Reserve.{Reserve}
-use Rattle.reserved.specs.declared.Taken.{Taken}
-use Rattle.reserved.specs.declared.Since.{Since}
-use Rattle.reserved.specs.declared.Since.the-variants.{Before, Steps}
-use Rattle.reserved.specs.declared.CurveValue.{CurveValue}
-use Rattle.reserved.specs.declared.CurveValue.the-variants.{At, Past}
-use Rattle.reserved.specs.Cycle.{sinceOf, calcOf}
-use Rattle.reserved.specs.Curve.{curveAt}
-use Rattle.reserved.specs.Reserve.{onTime, onCycle, onNote, okValues, okReserve, idle, taken, place, fromCurve, fromSince, fromList, timed, noted, firstOr, cycleOf}
-use Rattle.reserved.proofs.Reserves.{reserve-numbers}
+use Rattle.numbers.specs.Ranges.{isNumber}
+use Rattle.numbers.proofs.Tested.{zero-number}
+use Rattle.reserved.specs.Reserve.{onNote, okReserve}
+use Rattle.reserved.proofs.Kept.{timed-kept, noted-kept, noted-number}
 use Rattle.params.specs.declared.NoteParam.{NoteParam}
 use Rattle.params.specs.declared.ParamValue.{ParamValue}
-use Rattle.params.specs.Param.{withReserve, okLimits, okParam}
+use Rattle.params.specs.Param.{okParam}
 use Rattle.params.proofs.Calls.{param-reserve}
+use Rattle.params.proofs.Kept.{with-kept}
 use Rattle.layers.specs.declared.Layers.{Layers}
 use Rattle.layers.specs.Layers.{okLayers}
 use Rattle.state.specs.declared.Track.{Track}
@@ -124,93 +106,6 @@ module _ (a : Track) (e : okTrack a ≡ true) where
       either (eqb w 0) _ _ (velocity-kept x h)
       (either (eqb w 1) _ _ (qlen-kept x h) (either (eqb w 2) _ _ (timing-kept x h) (either (eqb w 3) _ _ (octave-kept x h) e)))
 
--- ---- what a note leaves of a reservation
-idle-well : okReserve idle ≡ true
-unfolding okReserve okValues okNumbers counted all isStoredTime isLength sized inside
-idle-well = refl
-
-module _ (r : Reserve) (e : okReserve r ≡ true) (def : ℤ) where
-  curve-well : (k : CurveValue) → okReserve (fromCurve r def k .reserve) ≡ true
-  curve-well (At v) = e
-  curve-well Past = idle-well
-
-  since-well : (s : Since) → okReserve (fromSince r def s .reserve) ≡ true
-  since-well Before = e
-  since-well (Steps k) = curve-well (curveAt (triples (shown (r .values))) k)
-
-  pub timed-well : (t : ℤ) → okReserve (timed r t def .reserve) ≡ true
-  unfolding timed
-  timed-well t = go (eqb (r .kind) onCycle) (eqb (r .kind) onTime)
-    where
-      go : (b d : Bool) → okReserve (cond b (taken (firstOr def (calcOf (cycleOf r) t .values)) r) (cond d (fromSince r def (sinceOf (r .start) t)) (taken def r)) .reserve) ≡ true
-      go true d = e
-      go false true = since-well (sinceOf (r .start) t)
-      go false false = e
-
--- a number of a list that passes, or the default
-zero-well : isNumber (pos 0) ≡ true
-unfolding isNumber sized inside
-zero-well = refl
-
-at-well : (n i : ℕ) (l : List ℤ) → all isNumber (take n l) ≡ true → i < n → isNumber (getD l i (pos 0)) ≡ true
-unfolding all
-at-well zero i l h k = absurd (not-suc-le-zero k)
-at-well (suc n) i [] h k = zero-well
-at-well (suc n) zero (x ∷ l) h k = left (isNumber x) (all isNumber (take n l)) h
-at-well (suc n) (suc i) (x ∷ l) h k = at-well n i l (right (isNumber x) (all isNumber (take n l)) h) (le-of-suc-le-suc k)
-
--- one of three tests exchanged for another
-exchanged : (t i j v : Bool) → (t && i && v) ≡ true → j ≡ true → (t && j && v) ≡ true
-exchanged true true true v q h = q
-exchanged true true false v q h = cc
-exchanged true false j v q h = cc
-exchanged false i j v q h = cc
-
-module _ (r : Reserve) (e : okReserve r ≡ true) (def : ℤ) where
-  abbrev next : Bool → Taken
-  next b = fromList r (place r) def (cond b got.Nothing (got.Value (getD (r .values .items) (place r) (pos 0))))
-
-  next-well : (b : Bool) → leb (r .values .count) (place r) ≡ b → okReserve (next b .reserve) ≡ true
-  unfolding okReserve
-  next-well true h = idle-well
-  next-well false h =
-      exchanged (leb (r .kind) 3 && leb (r .cycling) 1 && isStoredTime (r .start) && isLength (r .length)) (leb (r .index) (r .values .count)) (leb (place r + 1) (r .values .count))
-      (okValues (r .kind) (r .values)) e
-      (le-leb (place r + 1) (r .values .count) (omega (arith, leb-false (r .values .count) (place r) h)))
-
-  pub noted-well : okReserve (noted r def .reserve) ≡ true
-  unfolding noted
-  noted-well = go (eqb (r .kind) onNote)
-    where
-      go : (b : Bool) → okReserve (cond b (next (leb (r .values .count) (place r))) (taken def r) .reserve) ≡ true
-      go true = next-well (leb (r .values .count) (place r)) refl
-      go false = e
-
-  numbers-well : all isNumber (take (r .values .count) (r .values .items)) ≡ true
-  unfolding okNumbers counted
-  numbers-well = right (leb (r .values .count) listLimit) (all isNumber (take (r .values .count) (r .values .items))) (reserve-numbers r e)
-
-  module _ (d : isNumber def ≡ true) where
-    next-number : (b : Bool) → leb (r .values .count) (place r) ≡ b → isNumber (next b .value) ≡ true
-    next-number true h = d
-    next-number false h = at-well (r .values .count) (place r) (r .values .items) numbers-well (leb-false (r .values .count) (place r) h)
-
-    pub noted-number : isNumber (noted r def .value) ≡ true
-    unfolding noted
-    noted-number = go (eqb (r .kind) onNote)
-      where
-        go : (b : Bool) → isNumber (cond b (next (leb (r .values .count) (place r))) (taken def r) .value) ≡ true
-        go true = next-number (leb (r .values .count) (place r)) refl
-        go false = d
-
-pub reserve-well : (p : NoteParam) (r : Reserve) → okParam p ≡ true → okReserve r ≡ true → okParam (withReserve p r) ≡ true
-unfolding okParam okLimits
-reserve-well p r e h = rw h (rest (okReserve (p .reserve)) _ _ e)
-  where
-    rest : (x y z : Bool) → (x && y && z) ≡ true → (y && z) ≡ true
-    rest true y z q = q
-    rest false y z q = cc
-
 -- ---- what the calls leave
 module _ (n : ℕ) (a : Track) (v : ℤ) (b : Track) where
   abbrev given-by : Bool → TrackValue
@@ -232,7 +127,7 @@ module _ (w : ℕ) (a : Track) (e : okTrack a ≡ true) (def : ℤ) where
   unfolding timeTaken
   value-on-time-kept =
       left-well _ a _ _ e
-      (param-kept a e w _ (given-param _ (paramOf w a) okParam _ (param-well w a e) (reserve-well (paramOf w a) _ (param-well w a e) (timed-well (paramOf w a .reserve) reserve def (a .timepos)))))
+      (param-kept a e w _ (given-param _ (paramOf w a) okParam _ (param-well w a e) (with-kept (paramOf w a) _ (param-well w a e) (timed-kept (paramOf w a .reserve) reserve def (a .timepos)))))
 
   after-well : (r : ParamValue) → okParam (r .param) ≡ true → isNumber (r .value) ≡ true → okTrack (afterNote w a r) ≡ true
   unfolding afterNote
@@ -245,5 +140,5 @@ module _ (w : ℕ) (a : Track) (e : okTrack a ≡ true) (def : ℤ) where
   value-on-note-kept d =
       left-well _ a _ _ e
       (after-well _
-      (given-param _ (paramOf w a) okParam _ (param-well w a e) (reserve-well (paramOf w a) _ (param-well w a e) (noted-well (paramOf w a .reserve) reserve def)))
-      (given-value _ (paramOf w a) isNumber _ zero-well (noted-number (paramOf w a .reserve) reserve def d)))
+      (given-param _ (paramOf w a) okParam _ (param-well w a e) (with-kept (paramOf w a) _ (param-well w a e) (noted-kept (paramOf w a .reserve) reserve def)))
+      (given-value _ (paramOf w a) isNumber _ zero-number (noted-number (paramOf w a .reserve) reserve def d)))

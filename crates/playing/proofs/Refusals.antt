@@ -25,11 +25,10 @@ use Rattle.layers.specs.declared.LayersAnswer.{LayersAnswer}
 use Rattle.layers.specs.Layers.{okLayers}
 use Rattle.layers.specs.Calls.{layerDemand, setVSub, setVSubOnTime}
 use Rattle.state.specs.declared.Track.{Track}
-use Rattle.state.specs.declared.TrackAnswer.{TrackAnswer}
 use Rattle.state.specs.Tests.{okParams, okTrack}
-use Rattle.state.specs.Calls.{answer, answered}
 use Rattle.state.proofs.Parts.{track-play, track-params, track-layers}
 use Rattle.state.proofs.Play.{play-time}
+use Rattle.state.proofs.Answers.{code-of}
 use Rattle.playing.specs.declared.TrackValue.{TrackValue}
 use Rattle.playing.specs.Which.{isParam, paramOf}
 use Rattle.playing.specs.Calls.{asked, paramAsked, onParam, onLayers, given, timeTaken, noteTaken, valueOnTime, valueOnNote}
@@ -37,29 +36,17 @@ use Rattle.playing.proofs.Codes.{param-code, value-code}
 use Rattle.playing.proofs.LayerCodes.{layers-code}
 
 -- ---- the number of a track's answer is the one that it was chosen by
-module _ (n : ℕ) (a b : Track) where
-  abbrev left-by : Bool → TrackAnswer
-  left-by t = cond t (answer 0 b) (answer n a)
+module _ (n : ℕ) (a b : Track) (v : ℤ) where
+  abbrev given-by : Bool → TrackValue
+  given-by t = cond t (record { code = 0; value = v; track = b }) (record { code = n; value = pos 0; track = a })
 
-  answered-code : answered n a b .code ≡ n
-  unfolding answered
-  answered-code = go (eqb n 0) (eqb-true n 0)
+  given-code : given n a v b .code ≡ n
+  unfolding given
+  given-code = go (eqb n 0) (eqb-true n 0)
     where
-      go : (t : Bool) → (t ≡ true → n ≡ 0) → left-by t .code ≡ n
+      go : (t : Bool) → (t ≡ true → n ≡ 0) → given-by t .code ≡ n
       go true f = sym (f refl)
       go false f = refl
-
-  module _ (v : ℤ) where
-    abbrev given-by : Bool → TrackValue
-    given-by t = cond t (record { code = 0; value = v; track = b }) (record { code = n; value = pos 0; track = a })
-
-    given-code : given n a v b .code ≡ n
-    unfolding given
-    given-code = go (eqb n 0) (eqb-true n 0)
-      where
-        go : (t : Bool) → (t ≡ true → n ≡ 0) → given-by t .code ≡ n
-        go true f = sym (f refl)
-        go false f = refl
 
 -- ---- the test of the whole in 4's place
 asked-demand : (ok x : Bool) → asked ok (demand x) ≡ demand (ok && x)
@@ -152,7 +139,7 @@ module _ (w : ℕ) (a : Track) where
   -- ---- the setters of a parameter: one with a number, one with two, a curve, a cycle
   on-param-code : (r : ParamAnswer) → onParam w a r .code ≡ paramAsked w a (r .code)
   unfolding onParam
-  on-param-code r = answered-code _ _ _
+  on-param-code r = code-of _ _ _
 
   pub set-random-code : (n : ℤ) → onParam w a (setRandom (paramOf w a) n) .code ≡ demand (okTrack a && isParam w && isRandom n)
   set-random-code n =
@@ -180,7 +167,7 @@ module _ (w : ℕ) (a : Track) where
 module _ (a : Track) (i : ℕ) where
   on-layers-code : (r : LayersAnswer) → onLayers a r .code ≡ asked (okTrack a) (r .code)
   unfolding onLayers
-  on-layers-code r = answered-code _ _ _
+  on-layers-code r = code-of _ _ _
 
   delay-well : okTrack a ≡ true → isLength (a .v .delay) ≡ true
   unfolding paramOf

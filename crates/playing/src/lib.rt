@@ -4,10 +4,8 @@
 ghost use mathlib.Core.Path.{_≡_};
 ghost use Rattle.params.specs.Calls.{clearReserve, setOnTime, setOnCycle, setOnNote, setRandom, setRange, clearRange, setDelay, setMax, clearMax, setRepeat};
 ghost use Rattle.layers.specs.Calls.{setVSub, setVSubRandom, setVSubOnTime, setVSubOnCycle, setVSubOnNote, applyVSub};
-ghost use Rattle.state.specs.Track.{withLayers};
 ghost use Rattle.playing.specs.Which.{velocity, gate, timing, octave, span, paramOf, withParam, withValue};
 ghost use Rattle.playing.specs.Calls.{asked, onParam, onLayers, timeTaken, afterNote, noteTaken, summedUp, valueOnTime, valueOnNote};
-use layers::Layers;
 use layers::LayersAnswer;
 use layers::Velocity;
 use params::NoteParam;

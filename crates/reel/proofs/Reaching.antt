@@ -2,15 +2,14 @@
 use mathlib.Core.Path.{_≡_, refl, sym, _∙_}
 use mathlib.Core.Bool.{Bool, true, false, cond}
 use mathlib.Core.List.{List}
-use Prim.Native.Nat.{ℕ, _+_, _*_, _≤_}
+use Prim.Native.Nat.{ℕ, _+_, _≤_}
 use native.Mathlib.Omega.{arith}
 use lib.Dec.{eqb}
 use lib.ListN.{length}
 use borrow.Author.Tests.{eqb-true, eq-eqb}
-use Rattle.reel.specs.Marks.{widthOf}
-use Rattle.reel.specs.Records.{behind, markAt, fault, countAt, sound, unsound, recordAt}
+use Rattle.reel.specs.Records.{markAt, fault, countAt, sound, unsound, recordAt}
 use Rattle.reel.specs.declared.records.Record.{Record}
-use Rattle.reel.proofs.Reading.{Fits, fault-none}
+use Rattle.reel.proofs.Reading.{fault-none}
 
 -- of a record that is there or refused by a number, the code says which
 chosen : (k : ℕ) (b : Bool) (x y : Record) → b ≡ eqb k 0 → y .code ≡ k → cond b x y .code ≡ 0 → k ≡ 0

@@ -3,13 +3,13 @@
 --     no-target, no-count, short-list, whole-list, not-due, no-list, asked-list   the refusals, in their order
 --     Fits, fault-none    a record that is not refused is there whole, its list too
 --     sound-by, record-refused, record-read   the record, put together
-use mathlib.Core.Path.{_≡_, refl, ap, sym, _∙_}
-use mathlib.Core.Bool.{Bool, true, false, cond, _&&_}
+use mathlib.Core.Path.{_≡_, refl, _∙_}
+use mathlib.Core.Bool.{Bool, true, false, cond}
 use mathlib.Core.List.{List}
 use Prim.Native.Nat.{ℕ, _+_, _*_, _≤_, _<_}
 use native.Mathlib.Omega.{arith}
 use lib.Dec.{eqb, leb, ltb}
-use lib.IntN.{ℤ, pos}
+use lib.IntN.{ℤ}
 use lib.ListN.{length}
 use borrow.Author.Tests.{le-leb, lt-leb, leb-true, ltb-true, eq-eqb, ne-eqb}
 use Rattle.laws.specs.Integers.{cut}
@@ -24,7 +24,6 @@ use Rattle.reel.specs.Records.{behind, markAt, secondAt, lastAt, isCount
 use Rattle.counted.specs.declared.Numbers.{Numbers}
 use Rattle.counted.specs.Numbers.{numbers}
 use Rattle.reel.specs.declared.marks.Mark.{Mark}
-use Rattle.reel.specs.declared.records.Record.{Record}
 use Rattle.reel.specs.declared.marks.Mark.the-variants.{Unknown}
 
 module _ (s : List ℕ) (p : ℕ) (m : Mark) (e : m ≡ markOf (lettersAt s p)) where

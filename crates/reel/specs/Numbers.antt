@@ -1,5 +1,5 @@
 -- 01, "The tape program": "Each record starts with a two-byte mark; numbers are four bytes, little-endian, signed".
-use Prim.Native.Nat.{ℕ, zero, suc, _+_, _*_}
+use Prim.Native.Nat.{ℕ, zero, suc, _+_}
 use mathlib.Core.List.{List, [], _∷_}
 use lib.IntN.{ℤ}
 use lib.ListN.{getD}

@@ -1,7 +1,7 @@
 -- 01, "The tape program": what stands at a place of a tape. "Inside a record, numbers missing before the list give 8, then
 -- 2 and 3 are asked, then a short list gives 8, then the call's own numbers."
 use mathlib.Core.Bool.{Bool, cond}
-use mathlib.Core.List.{List, []}
+use mathlib.Core.List.{List}
 use Prim.Native.Nat.{ℕ, _+_, _*_, _-_}
 use lib.Dec.{eqb, leb, ltb}
 use lib.IntN.{ℤ, pos}

@@ -14,10 +14,7 @@ use Rattle.numbers.specs.Ranges.{isStoredTime, isLength}
 use Rattle.counted.specs.Numbers.{okNumbers}
 use Rattle.reserved.specs.declared.Since.the-variants.{Before, Steps}
 use Rattle.reserved.specs.declared.OnCycleTime.{OnCycleTime}
-use Rattle.reserved.specs.declared.CycleValue.{CycleValue}
-use Rattle.reserved.specs.declared.CycleValue.the-variants.{Value, Nothing, Refused}
-use Rattle.reserved.specs.Cycle.{sinceOf, okCycle, cycleFrom, cycleAt, Said, said}
-use Rattle.reserved.specs.Reserve.{firstOr}
+use Rattle.reserved.specs.Cycle.{sinceOf, okCycle, cycleFrom, cycleAt}
 
 -- neither of two tests holds
 pub or-left : (a b : Bool) → (a || b) ≡ false → a ≡ false
@@ -53,22 +50,3 @@ module _ (c : OnCycleTime) (t : ℤ) where
     pub a-value : (eqb n 0 || eqb (c .values .count) 0) ≡ false → (getD (c .values .items) (k / n % c .values .count) (pos 0) ∷ []) ≡ cycleAt c t
     unfolding cycleAt
     a-value e = sym (ap (cycleFrom c) s ∙ rw (← l, e))
-
--- two answers that say the same are the same
-module _ (a b : CycleValue) (e : said a ≡ said b) where
-  numbers-equal : said a .number ≡ said b .number
-  numbers-equal = ap (λ (s : Said). s .number) e
-
-  lengths-equal : length (said a .values) ≡ length (said b .values)
-  lengths-equal = ap (λ (s : Said). length (s .values)) e
-
-pub said-determines : (a b : CycleValue) → said a ≡ said b → a ≡ b
-said-determines (Value v) (Value w) e = ap (λ (s : Said). Value (firstOr v (s .values))) e
-said-determines (Value v) Nothing e = absurd (omega (arith, lengths-equal (Value v) Nothing e))
-said-determines (Value v) Refused e = absurd (omega (arith, lengths-equal (Value v) Refused e))
-said-determines Nothing (Value w) e = absurd (omega (arith, lengths-equal Nothing (Value w) e))
-said-determines Nothing Nothing e = refl
-said-determines Nothing Refused e = absurd (omega (arith, numbers-equal Nothing Refused e))
-said-determines Refused (Value w) e = absurd (omega (arith, lengths-equal Refused (Value w) e))
-said-determines Refused Nothing e = absurd (omega (arith, numbers-equal Refused Nothing e))
-said-determines Refused Refused e = refl

@@ -1,6 +1,7 @@
 -- What is in range stays in range: every reservation that a setter makes or a note leaves passes the test, so that the next call takes it.
 --     idle-ok, curve-kept, cycle-kept, notes-kept   what is set
 --     noted-kept, timed-kept                        what a note leaves
+--     noted-number                                  and what it takes is a number that may be stored
 use mathlib.Core.Path.{_≡_, refl}
 use mathlib.Core.Bool.{Bool, true, false, cond, _&&_}
 use Prim.Native.Nat.{ℕ, _+_, _^_, _≤_}
@@ -8,17 +9,19 @@ use native.Mathlib.Omega.{arith}
 use borrow.Author.Tests.{le-leb, leb-false}
 use lib.Dec.{eqb, leb}
 use lib.IntN.{ℤ, pos, _+ℤ_}
+use lib.ListN.{getD}
 use Rattle.laws.specs.Integers.{sized, inside}
 use Rattle.laws.specs.Lists.{all, counted}
 use Rattle.laws.proofs.Ranges.{sized-small}
 use Rattle.laws.proofs.Signed.{mag-add}
-use Rattle.numbers.specs.Ranges.{isTime, isStoredTime, isLength}
+use Rattle.numbers.specs.Ranges.{isTime, isStoredTime, isNumber, isLength}
 use Rattle.counted.specs.declared.Numbers.{Numbers}
 use Rattle.counted.specs.declared.Got.{Got}
 use Rattle.counted.specs.declared.Got.the-variants.{Value, Nothing}
 use Rattle.counted.specs.Numbers.{shown, okNumbers, gotAt}
 use Rattle.counted.specs.Curves.{triples, okCurve}
 use Rattle.counted.proofs.Sizes.{time-mag, length-mag}
+use Rattle.counted.proofs.Counted.{numbers-at}
 use Rattle.reserved.specs.declared.Since.{Since}
 use Rattle.reserved.specs.declared.Since.the-variants.{Before, Steps}
 use Rattle.reserved.specs.declared.CurveValue.{CurveValue}
@@ -28,7 +31,7 @@ use Rattle.reserved.specs.Cycle.{sinceOf, calcOf}
 use Rattle.reserved.specs.Curve.{curveAt}
 use Rattle.reserved.specs.Reserve.{onTime, onCycle, onNote, reserved, idle, curveFrom, cycleOver, notesFrom, okValues, okReserve, taken, cycleOf, firstOr, fromCurve, fromSince, timed, place, fromList, noted}
 use Rattle.reserved.specs.Setting.{cycleFor}
-use Rattle.reserved.proofs.Reserves.{reserve-tags, reserve-start, reserve-length, reserve-values}
+use Rattle.reserved.proofs.Reserves.{reserve-tags, reserve-start, reserve-length, reserve-values, reserve-numbers}
 
 -- every part in range
 made : (r : Reserve) → (leb (r .kind) 3 && leb (r .cycling) 1) ≡ true → isStoredTime (r .start) ≡ true → isLength (r .length) ≡ true → r .index ≤ r .values .count → okValues (r .kind) (r .values) ≡ true → okReserve r ≡ true
@@ -91,6 +94,19 @@ module _ (r : Reserve) (e : okReserve r ≡ true) (def : ℤ) where
       go : (b : Bool) → okReserve (cond b (fromList r (place r) def (gotAt (r .values) (place r))) (taken def r) .reserve) ≡ true
       go true = listed (gotAt (r .values) (place r)) refl
       go false = e
+
+  module _ (d : isNumber def ≡ true) where
+    from-list : (b : Bool) (i : ℕ) → leb (r .values .count) i ≡ b → isNumber (fromList r i def (cond b Nothing (Value (getD (r .values .items) i (pos 0)))) .value) ≡ true
+    from-list true i q = d
+    from-list false i q = numbers-at (r .values) i (reserve-numbers r e) (leb-false (r .values .count) i q)
+
+    pub noted-number : isNumber (noted r def .value) ≡ true
+    unfolding noted
+    noted-number = go (eqb (r .kind) onNote)
+      where
+        go : (b : Bool) → isNumber (cond b (fromList r (place r) def (gotAt (r .values) (place r))) (taken def r) .value) ≡ true
+        go true = from-list (leb (r .values .count) (place r)) (place r) refl
+        go false = d
 
   curved : (c : CurveValue) → okReserve (fromCurve r def c .reserve) ≡ true
   curved (At v) = e

@@ -8,8 +8,9 @@ use native.Mathlib.Omega.{arith}
 use borrow.Author.Tests.{lt-ltb, le-ltb, eq-eqb}
 use lib.Dec.{eqb}
 use lib.IntN.{ℤ, pos, negsuc, subℕ, _-ℤ_}
-use lib.Signed.{mag, ltZ}
+use lib.Signed.{mag}
 use Rattle.laws.specs.Integers.{cut}
+use Rattle.laws.proofs.Order.{ltZ-irrefl}
 use Rattle.shapes.proofs.Start.{curve-start}
 use Rattle.counted.specs.Numbers.{shown}
 use Rattle.counted.specs.Curves.{Triple, triples}
@@ -20,10 +21,6 @@ use Rattle.reserved.specs.Cycle.{sinceOf}
 use Rattle.reserved.specs.Curve.{curveAt}
 use Rattle.reserved.specs.Reserve.{onTime, onCycle, taken, timed}
 
-not-below : (z : ℤ) → ltZ z z ≡ false
-not-below (pos n) = le-ltb n n (le-refl n)
-not-below (negsuc n) = le-ltb n n (le-refl n)
-
 none-left : (n : ℕ) → cut (subℕ n n) ≡ 0
 none-left n = simp (le-ltb n n (le-refl n)) (omega arith)
 
@@ -33,7 +30,7 @@ no-time (pos (suc n)) = none-left (suc n)
 no-time (negsuc n) = none-left (suc n)
 
 at-once : (z : ℤ) → sinceOf z z ≡ Steps 0
-at-once z = simp (not-below z, no-time z)
+at-once z = simp (ltZ-irrefl z, no-time z)
 
 module _ (r : Reserve) (k : r .kind ≡ onTime) (x : Triple) (rest : List Triple) (e : triples (shown (r .values)) ≡ x ∷ rest) (low : mag (x .low) ≤ 2 ^ 22) (high : mag (x .high) ≤ 2 ^ 22) (p : 0 < cut (x .length)) (l : cut (x .length) ≤ 2 ^ 24) where
   first : curveAt (triples (shown (r .values))) 0 ≡ At (x .low)

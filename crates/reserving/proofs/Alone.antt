@@ -1,17 +1,14 @@
 -- The answers of the older calls that are handed the track alone.
 --     no-target, no-track, well   their number, read off the tests
---     refused, done               the answer by its number
 --     usable                      a call that is not refused was handed a track that may be used
-use mathlib.Core.Path.{_≡_, refl, sym, ap, _∙_}
+use mathlib.Core.Path.{_≡_, refl}
 use mathlib.Core.Bool.{Bool, true, false, cond}
 use Prim.Native.Nat.{ℕ}
 use native.Mathlib.Omega.{arith}
-use borrow.Author.Tests.{eq-eqb, ne-eqb}
 use lib.IntN.{ℤ}
 use Rattle.numbers.specs.Ranges.{isTarget}
 use Rattle.state.specs.declared.Track.{Track}
 use Rattle.state.specs.Tests.{okTrack}
-use Rattle.state.specs.Calls.{answer, answered}
 use Rattle.reserving.specs.Old.{aloneRefusal}
 
 module _ (a : Track) (target : ℤ) where
@@ -36,12 +33,3 @@ module _ (a : Track) (target : ℤ) where
       go false q e = absurd (omega arith)
       go true false e = absurd (omega arith)
       go true true e = refl
-
-module _ {m n : ℕ} (e : m ≡ n) (a b : Track) where
-  pub refused : (m ≡ 0 → ⊥) → answer m a ≡ answered n a b
-  unfolding answered
-  refused h = ap (λ (k : ℕ). answer k a) e ∙ rw (ne-eqb n 0 (λ z. h (e ∙ z)))
-
-  pub done : m ≡ 0 → answer 0 b ≡ answered n a b
-  unfolding answered
-  done h = rw (eq-eqb n 0 (sym e ∙ h))

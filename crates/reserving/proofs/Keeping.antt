@@ -3,19 +3,19 @@
 --     cleared-kept  once a target is taken out
 --     note-kept, wave-kept, sine-kept, cycle-kept   once one is put in again
 --     cycle-storable   the cycle that a set makes may be stored
-use mathlib.Core.Path.{_≡_, refl, ap, _∙_}
-use mathlib.Core.Bool.{Bool, true, false, _&&_, true≢false}
-use mathlib.Core.List.{List, [], _∷_, _++_, append-nil}
+use mathlib.Core.Path.{_≡_, ap, _∙_}
+use mathlib.Core.Bool.{true, false, _&&_, true≢false}
+use mathlib.Core.List.{List, _++_, append-nil}
 use Prim.Native.Nat.{ℕ, _≤_, _<_, _^_}
 use native.Mathlib.Omega.{arith}
 use borrow.Author.Tests.{le-leb, leb-false, eqb-false, lt-ltb}
 use lib.Dec.{eqb, ltb}
 use lib.IntN.{ℤ, pos, negsuc}
 use lib.Signed.{leZ}
-use lib.ListN.{length, length-append}
-use Rattle.laws.specs.Lists.{all, putFirst}
-use Rattle.laws.specs.Keys.{absent, distinct}
+use Rattle.laws.specs.Keys.{distinct}
 use Rattle.laws.proofs.Ranges.{left, right, sized-small}
+use Rattle.laws.proofs.Lone.{distinct-first}
+use Rattle.laws.proofs.Firsts.{roomy, counted-without, counted-with}
 use Rattle.numbers.specs.Limits.{places}
 use Rattle.numbers.specs.Ranges.{isTarget, isLength, isTime, isStoredTime}
 use Rattle.counted.specs.declared.Numbers.{Numbers}
@@ -34,33 +34,21 @@ use Rattle.tables.specs.declared.SineTable.{SineTable}
 use Rattle.tables.specs.declared.CycleTable.{CycleTable}
 use Rattle.tables.specs.Reservations.{okValues, okWave, okSine}
 use Rattle.tables.specs.Tables.{noNote, noWave, noSine, noCycle, noteAt, waveAt, sineAt, cycleAt, notesLeft, wavesLeft, sinesLeft, cyclesLeft, notesWithout, wavesWithout, sinesWithout, cyclesWithout, notesWith, wavesWith, sinesWith, cyclesWith, okNotes, okWaves, okSines, okCycles, noteKeys, waveKeys, sineKeys, cycleKeys, lone}
-use Rattle.tables.proofs.Keeping.{counted-without, counted-with, lone-taken, lone-note, lone-wave, lone-sine, lone-cycle}
+use Rattle.tables.proofs.Keeping.{lone-taken, lone-note, lone-wave, lone-sine, lone-cycle}
 use Rattle.state.specs.declared.Track.{Track}
 use Rattle.state.specs.Track.{noCycles, cyclesOf, withTables}
 use Rattle.state.specs.Tests.{okTables, okPlay, okTrack, okLent}
 use Rattle.state.proofs.Counts.{few-cycles}
 use Rattle.state.proofs.Parts.{whole, track-play, track-params, track-layers, track-options}
 use Rattle.state.proofs.Stored.{stored-notes, stored-waves, stored-sines}
+use Rattle.state.proofs.Lent.{lent-track, lent-cycles, lent-lone, lent-whole}
 use Rattle.reserving.specs.declared.Kept.{Kept}
 use Rattle.reserving.specs.Clearing.{cleared}
 use Rattle.reserving.specs.Setting.{cycleOf, withNote, withWave, withSine, withCycle, onlyRemoves}
-use Rattle.reserving.proofs.Lent.{lent-track, lent-cycles, lent-lone, lent-whole}
 
 -- the track and the table that a call left may be used
 abbrev pub Passes : Kept → Type 0
 Passes r = okLent (r .track) (r .cycles) ≡ true
-
--- ---- keys of which some are left out still stand once
-all-first : {A : Type 0} (p : A → Bool) (xs ys : List A) → all p (xs ++ ys) ≡ true → all p xs ≡ true
-unfolding all
-all-first p [] ys e = refl
-all-first p (x ∷ xs) ys e = rw (left (p x) (all p (xs ++ ys)) e) (all-first p xs ys (right (p x) (all p (xs ++ ys)) e))
-
-distinct-first : (xs ys : List ℕ) → distinct (xs ++ ys) ≡ true → distinct xs ≡ true
-unfolding distinct absent
-distinct-first [] ys e = refl
-distinct-first (x ∷ xs) ys e =
-    rw (all-first _ xs ys (left (absent x (xs ++ ys)) (distinct (xs ++ ys)) e)) (distinct-first xs ys (right (absent x (xs ++ ys)) (distinct (xs ++ ys)) e))
 
 -- "over all four kinds" is more than over the three that a track holds
 lone-three : (n : NoteTable) (w : WaveTable) (s : SineTable) (y : CycleTable) → lone n w s y ≡ true → lone n w s noCycles ≡ true
@@ -128,9 +116,6 @@ module _ (a : Track) (cs : List Cycle) (k : ℕ) (e : okLent a cs ≡ true) wher
   alone = lent-lone a cs e
 
   -- what is put first fits
-  fitting : {A : Type 0} (z : A) (c : ℕ) (now l : List A) → length now ≤ length (putFirst z c now l)
-  fitting z c now l = rw length-append (omega arith)
-
   pub cleared-kept : Passes (cleared a cs k)
   unfolding cleared
   cleared-kept = with-tables a t n w s ns ws ss y ys (lone-taken (a .notes) (a .waves) (a .sines) (cyclesOf a cs) k alone)
@@ -139,28 +124,28 @@ module _ (a : Track) (cs : List Cycle) (k : ℕ) (e : okLent a cs ≡ true) wher
   unfolding cleared okNotes
   note-kept x o q h =
       with-tables a t (notesWith n x) w s
-      (counted-with noNote (n .count) (n .items) okValues places ns x h (fitting noNote (a .notes .count) (notesLeft (a .notes) k) (a .notes .items)) o)
+      (counted-with noNote (n .count) (n .items) okValues places ns x h (roomy noNote (a .notes .count) (notesLeft (a .notes) k) (a .notes .items)) o)
       ws ss y ys (lone-note (a .notes) (a .waves) (a .sines) (cyclesOf a cs) k alone x q)
 
   pub wave-kept : (x : OnNoteWave) → okWave x ≡ true → key (x .target) ≡ k → w .count < places → Passes (withWave x (cleared a cs k))
   unfolding cleared okWaves
   wave-kept x o q h =
       with-tables a t n (wavesWith w x) s ns
-      (counted-with noWave (w .count) (w .items) okWave places ws x h (fitting noWave (a .waves .count) (wavesLeft (a .waves) k) (a .waves .items)) o)
+      (counted-with noWave (w .count) (w .items) okWave places ws x h (roomy noWave (a .waves .count) (wavesLeft (a .waves) k) (a .waves .items)) o)
       ss y ys (lone-wave (a .notes) (a .waves) (a .sines) (cyclesOf a cs) k alone x q)
 
   pub sine-kept : (x : OnNoteSine) → okSine x ≡ true → key (x .target) ≡ k → s .count < places → Passes (withSine x (cleared a cs k))
   unfolding cleared okSines
   sine-kept x o q h =
       with-tables a t n w (sinesWith s x) ns ws
-      (counted-with noSine (s .count) (s .items) okSine places ss x h (fitting noSine (a .sines .count) (sinesLeft (a .sines) k) (a .sines .items)) o)
+      (counted-with noSine (s .count) (s .items) okSine places ss x h (roomy noSine (a .sines .count) (sinesLeft (a .sines) k) (a .sines .items)) o)
       y ys (lone-sine (a .notes) (a .waves) (a .sines) (cyclesOf a cs) k alone x q)
 
   pub cycle-kept : (x : Cycle) → okCycle x ≡ true → key (x .target) ≡ k → y .count < places → Passes (withCycle x (cleared a cs k))
   unfolding cleared okCycles
   cycle-kept x o q h =
       with-tables a t n w s ns ws ss (cyclesWith y x)
-      (counted-with noCycle (y .count) (y .items) okCycle places ys x h (fitting noCycle (a .cycles) (cyclesLeft (cyclesOf a cs) k) cs) o)
+      (counted-with noCycle (y .count) (y .items) okCycle places ys x h (roomy noCycle (a .cycles) (cyclesLeft (cyclesOf a cs) k) cs) o)
       (lone-cycle (a .notes) (a .waves) (a .sines) (cyclesOf a cs) k alone x q)
 
 -- ---- a cycle that is put in may be stored

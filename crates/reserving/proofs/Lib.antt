@@ -1,4 +1,3 @@
-pub mod Lent
 pub mod Refusing
 pub mod Settling
 pub mod Handing

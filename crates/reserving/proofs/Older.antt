@@ -4,15 +4,15 @@
 --     ..-lent      and so it does with the cycle table that is lent with it
 use mathlib.Core.Path.{_≡_, refl, sym, ap, _∙_}
 use mathlib.Core.Bool.{Bool, true, false, cond}
-use mathlib.Core.List.{List, [], _∷_, _++_, map, append-assoc}
+use mathlib.Core.List.{List, [], _++_, map, append-assoc}
 use Prim.Native.Nat.{ℕ, _≤_}
 use borrow.Author.Tests.{leb-true}
 use lib.Dec.{eqb}
 use lib.IntN.{ℤ}
 use lib.ListN.{take}
-use Rattle.laws.specs.Lists.{all, unless, without}
-use Rattle.laws.specs.Keys.{absent, distinct}
-use Rattle.laws.proofs.Ranges.{left, right}
+use Rattle.laws.specs.Keys.{distinct}
+use Rattle.laws.proofs.Lone.{distinct-amid}
+use Rattle.laws.proofs.Firsts.{shown}
 use Rattle.numbers.specs.Limits.{places}
 use Rattle.cycles.specs.declared.Cycle.{Cycle}
 use Rattle.cycles.specs.Due.{key}
@@ -24,42 +24,16 @@ use Rattle.tables.specs.declared.WaveTable.{WaveTable}
 use Rattle.tables.specs.declared.SineTable.{SineTable}
 use Rattle.tables.specs.declared.CycleTable.{CycleTable}
 use Rattle.tables.specs.Tables.{noNote, noWave, noSine, noteAt, waveAt, sineAt, notesLeft, wavesLeft, sinesLeft, notesWithout, wavesWithout, sinesWithout, noteKeys, waveKeys, sineKeys, cycleKeys, lone}
-use Rattle.tables.proofs.Keeping.{shown}
 use Rattle.state.specs.declared.Track.{Track}
 use Rattle.state.specs.Track.{noCycles, cyclesOf}
 use Rattle.state.specs.Tests.{okTrack, okLent}
 use Rattle.state.specs.Calls.{answer, answered}
 use Rattle.state.proofs.Parts.{track-cycles}
 use Rattle.state.proofs.Stored.{stored-lone, stored-notes, stored-waves, stored-sines}
+use Rattle.state.proofs.Lent.{lent-track, lent-cycles, lent-lone}
 use Rattle.drawing.specs.Calls.{ccTarget}
 use Rattle.reserving.specs.Old.{aloneRefusal, removeCcOnNote, removeCcOnNoteWave}
-use Rattle.reserving.proofs.Lent.{lent-track, lent-cycles, lent-lone}
 use Rattle.reserving.proofs.Keeping.{notes-ok, waves-ok, sines-ok, track-kept, with-tables}
-
--- ---- keys stand once where some are left out amid the others
-module _ {A : Type 0} (f : A → ℕ) (out : A → Bool) where
-  all-amid : (p : ℕ → Bool) (xs : List ℕ) (l : List A) (ys : List ℕ) → all p (xs ++ (map f l ++ ys)) ≡ true → all p (xs ++ (map f (without out l) ++ ys)) ≡ true
-  unfolding all
-  all-amid p [] [] ys e = e
-  all-amid p [] (x ∷ l) ys e = go (out x) (all-amid p [] l ys (right (p (f x)) (all p (map f l ++ ys)) e))
-    where
-      go : (b : Bool) → all p (map f (without out l) ++ ys) ≡ true → all p (map f (unless b x (without out l)) ++ ys) ≡ true
-      go true ih = ih
-      go false ih = rw (left (p (f x)) (all p (map f l ++ ys)) e) ih
-  all-amid p (k ∷ xs) l ys e =
-      rw (left (p k) (all p (xs ++ (map f l ++ ys))) e) (all-amid p xs l ys (right (p k) (all p (xs ++ (map f l ++ ys))) e))
-
-  distinct-amid : (xs : List ℕ) (l : List A) (ys : List ℕ) → distinct (xs ++ (map f l ++ ys)) ≡ true → distinct (xs ++ (map f (without out l) ++ ys)) ≡ true
-  unfolding distinct absent
-  distinct-amid [] [] ys e = e
-  distinct-amid [] (x ∷ l) ys e = go (out x) (distinct-amid [] l ys (right (absent (f x) (map f l ++ ys)) (distinct (map f l ++ ys)) e))
-    where
-      go : (b : Bool) → distinct (map f (without out l) ++ ys) ≡ true → distinct (map f (unless b x (without out l)) ++ ys) ≡ true
-      go true ih = ih
-      go false ih = rw (all-amid _ [] l ys (left (absent (f x) (map f l ++ ys)) (distinct (map f l ++ ys)) e)) ih
-  distinct-amid (k ∷ xs) l ys e =
-      rw (all-amid _ xs l ys (left (absent k (xs ++ (map f l ++ ys))) (distinct (xs ++ (map f l ++ ys))) e))
-      (distinct-amid xs l ys (right (absent k (xs ++ (map f l ++ ys))) (distinct (xs ++ (map f l ++ ys))) e))
 
 -- ---- one table without a target: every target still has one reservation at most
 module _ (n : NoteTable) (w : WaveTable) (s : SineTable) (y : CycleTable) (k : ℕ) (e : lone n w s y ≡ true) where

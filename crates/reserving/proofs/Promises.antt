@@ -29,10 +29,10 @@ use Rattle.state.specs.declared.Track.{Track}
 use Rattle.state.specs.Track.{cyclesOf}
 use Rattle.state.proofs.Parts.{track-play}
 use Rattle.state.proofs.Play.{play-time}
+use Rattle.state.proofs.Lent.{lent-track, notes-few, waves-few, sines-few, cycles-few}
 use Rattle.reserving.specs.declared.Kept.{Kept}
 use Rattle.reserving.specs.Clearing.{answer, cleared, reserving}
 use Rattle.reserving.specs.Setting.{isShort, repeatOf, noteOf, waveOf, cycleOf, noteRoom, waveRoom, sineRoom, cycleRoom, withNote, withWave, withSine, withCycle, onlyRemoves, removeReserve, setOnNote, setOnNoteWave, setOnNoteSine, setOnCycle}
-use Rattle.reserving.proofs.Lent.{lent-track, notes-few, waves-few, sines-few, cycles-few}
 use Rattle.reserving.proofs.Answering.{accepted, left-put, refused, placeless, passing, last, there, again}
 use Rattle.reserving.proofs.Refusing.{allowed}
 use Rattle.reserving.proofs.Keeping.{Passes, cleared-kept, note-kept, wave-kept, sine-kept, cycle-kept, cycle-storable}

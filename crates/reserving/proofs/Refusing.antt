@@ -1,5 +1,5 @@
 -- The number of a call on a reservation, read off its tests in their order.
---     wrong-size, no-target, long, no-number, full, well   which number it is
+--     wrong-size, no-target, long, no-number, well   which number it is
 --     aimed, usable, allowed, roomy   what every test said of a call that is not refused
 use mathlib.Core.Path.{_≡_, refl}
 use mathlib.Core.Bool.{Bool, true, false, cond, _&&_}
@@ -40,10 +40,6 @@ module _ (a : Track) (size : ℕ) (cs : List Cycle) (target : ℤ) (short ok roo
         no-number h = rw (eq-eqb size places s, t, l, h)
 
         module _ (k : (okLent a cs && ok) ≡ true) where
-          pub full : room ≡ false → 6 ≡ number
-          unfolding refusal
-          full h = rw (eq-eqb size places s, t, l, k, h)
-
           pub well : room ≡ true → 0 ≡ number
           unfolding refusal
           well h = rw (eq-eqb size places s, t, l, k, h)

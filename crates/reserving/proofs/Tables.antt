@@ -8,21 +8,15 @@ use mathlib.Core.Bool.{Bool, true, false, not, _&&_, true≢false}
 use mathlib.Core.List.{List, [], _∷_, _++_, map, map-append}
 use Prim.Native.Nat.{ℕ, _+_, _≤_, _<_}
 use native.Mathlib.Omega.{arith}
-use borrow.Author.Tests.{eqb-true, eq-eqb}
+use borrow.Author.Tests.{eq-eqb}
 use lib.Dec.{eqb}
 use lib.ListN.{length, take, length-append, length-take}
 use Rattle.laws.specs.Lists.{all, unless, without, putFirst}
 use Rattle.laws.specs.Keys.{absent}
 use Rattle.laws.proofs.Compact.{length-without}
-use Rattle.tables.proofs.Keeping.{shown}
-
--- a key that is another is another, asked either way round
-flip : (a k : ℕ) → eqb a k ≡ false → eqb k a ≡ false
-flip a k e = go (eqb k a) refl
-  where
-    go : (b : Bool) → eqb k a ≡ b → b ≡ false
-    go false q = refl
-    go true q = absurd (true≢false (sym (eq-eqb a k (sym (eqb-true k a q))) ∙ e))
+use Rattle.laws.proofs.Parts.{map-without}
+use Rattle.laws.proofs.Lone as lone
+use Rattle.laws.proofs.Firsts.{shown}
 
 absent-last : (k : ℕ) (ks : List ℕ) → absent k (ks ++ (k ∷ [])) ≡ false
 unfolding absent all
@@ -38,13 +32,7 @@ module _ {A : Type 0} (f : A → ℕ) (k : ℕ) where
   out x = eqb (f x) k
 
   none-left : (l : List A) → absent k (map f (without out l)) ≡ true
-  unfolding absent all
-  none-left [] = refl
-  none-left (x ∷ l) = go (eqb (f x) k) refl (none-left l)
-    where
-      go : (b : Bool) → eqb (f x) k ≡ b → absent k (map f (without out l)) ≡ true → absent k (map f (unless b x (without out l))) ≡ true
-      go true e ih = ih
-      go false e ih = rw (flip (f x) k e) ih
+  none-left l = ap (absent k) (map-without f (λ (i : ℕ). eqb i k) l) ∙ lone.gone k (map f l)
 
   fewer-left : (l : List A) → absent k (map f l) ≡ false → length (without out l) < length l
   unfolding absent all
@@ -54,7 +42,7 @@ module _ {A : Type 0} (f : A → ℕ) (k : ℕ) where
       go : (b : Bool) → eqb (f x) k ≡ b → (absent k (map f l) ≡ false → length (without out l) < length l) → length (unless b x (without out l)) < length (x ∷ l)
       go true q ih = omega (arith, length-without out l)
       go false q ih =
-          let other : not (eqb k (f x)) ≡ true = ap not (flip (f x) k q) in
+          let other : not (eqb k (f x)) ≡ true = ap not (lone.flip (f x) k q) in
           let rest : absent k (map f l) ≡ false = rw other at e in
           omega (arith, ih rest)
 

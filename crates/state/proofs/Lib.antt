@@ -5,3 +5,4 @@ pub mod Play
 pub mod New
 pub mod Keeping
 pub mod Stored
+pub mod Lent

@@ -1,5 +1,5 @@
 -- 01, "Numbers that come back": what the making of a track and the calls on its own numbers answer and leave.
-use mathlib.Core.Bool.{Bool, cond, _&&_}
+use mathlib.Core.Bool.{cond, _&&_}
 use Prim.Native.Nat.{ℕ}
 use lib.Dec.{eqb}
 use lib.IntN.{ℤ, pos}

@@ -1,7 +1,6 @@
 -- 01, "Numbers a caller may hand in": what a track may hold.
 use mathlib.Core.Bool.{Bool, _&&_}
 use mathlib.Core.List.{List}
-use Prim.Native.Nat.{ℕ}
 use lib.Dec.{leb}
 use Rattle.laws.specs.Lists.{all}
 use Rattle.numbers.specs.Limits.{places}

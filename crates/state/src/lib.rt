@@ -2,10 +2,6 @@
 // the cycles, whose table the caller lends; the track only counts how many records of that table are used. A call that
 // refuses hands back the track that it was given.
 ghost use mathlib.Core.Path.{_≡_};
-ghost use Rattle.laws.specs.Integers.{rangeOf};
-ghost use Rattle.laws.specs.Lists.{all};
-ghost use lib.IntN.{pos};
-ghost use Rattle.values.specs.Options.{okOption};
 ghost use Rattle.state.specs.Track.{noNotes, noWaves, noSines, noCycles, newTrack, cyclesOf};
 ghost use Rattle.state.specs.Tests.{okPlay, okParams, okOptions, okTables, okTrack, okLent};
 ghost use Rattle.state.specs.Calls.{onChannel, newOf, setTimepos, setChannel, setCcFreq, setPbFreq};

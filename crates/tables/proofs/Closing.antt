@@ -1,35 +1,25 @@
 -- A table that is closed up in place: the laws Taking, where the array is the list of its records itself.
 --     drop-one, keep-one   a record is taken out, or moved to the front of what is left
 --     finished             all are passed, and what is left is cleared: the table is the one without the target
-use mathlib.Core.Path.{_≡_, refl, sym, ap, _∙_}
+use mathlib.Core.Path.{_≡_, refl, ap, _∙_}
 use mathlib.Core.Bool.{Bool, true, false}
-use mathlib.Core.List.{List, [], _∷_, map}
-use Prim.Native.Nat.{ℕ, zero, suc, _+_, _≤_, _<_}
-use native.Mathlib.Nat.{le-of-suc-le-suc, not-suc-le-zero}
+use mathlib.Core.List.{List}
+use Prim.Native.Nat.{ℕ, _+_, _≤_, _<_}
 use native.Mathlib.Omega.{arith}
-use lib.ListN.{length, getD, set, take, length-take, length-set, length-map}
+use lib.ListN.{length, getD, set, take, length-take, length-set}
 use Rattle.laws.specs.Lists.{without, putFirst}
-use Rattle.laws.proofs.Taking.{Compacting, Clearing, n-le, step-drop, step-keep, closed, clear-none, clear-more}
+use Rattle.laws.proofs.Taking.{Compacting, Clearing, n-le, step-drop, step-keep, closed, clear-more}
 use Rattle.laws.proofs.Compact.{cleared-put, kept}
-
--- a list is as long as its image: what owning a table tells of its array's length
-pub as-long : (X Y : Type 0) (f : X → Y) (l : List X) (n : ℕ) → length (map f l) ≡ n → length l ≡ n
-as-long X Y f l n e = sym (length-map l f) ∙ e
+use Rattle.laws.proofs.Reading.{getD-any}
 
 module _ {A : Type 0} where
-  -- a record that is there is read the same whatever stands for one past the end
-  pub there : (l : List A) (i : ℕ) (d z : A) → i < length l → getD l i d ≡ getD l i z
-  there [] i d z h = absurd (not-suc-le-zero h)
-  there (x ∷ l) zero d z h = refl
-  there (x ∷ l) (suc i) d z h = there l i d z (le-of-suc-le-suc h)
-
   module _ (z : A) (out : A → Bool) (l₀ l : List A) (count i n : ℕ) (v : Compacting (λ (x : List A). x) z out l₀ l count i n) (fit : count ≤ length l₀) where
     pub few : n ≤ i
     few = n-le (λ (x : List A). x) z out l₀ l count i n v fit
 
     module _ (inside : i < count) (d : A) (t : Bool) (asked : t ≡ out (getD l i d)) where
       same : getD l i d ≡ getD l i z
-      same = there l i d z (omega (arith, v .long))
+      same = getD-any l i d z (omega (arith, v .long))
 
       pub drop-one : t ≡ true → Compacting (λ (x : List A). x) z out l₀ l count (i + 1) n
       drop-one y = step-drop (λ (x : List A). x) z out l₀ l count i n v fit inside (getD l i d) same t asked y

@@ -1,22 +1,20 @@
--- A set leaves tables within the rules: what stays passes its test and keeps its order, the target that is set is in no
--- table, so one more of it stands once.
---     counted-without, counted-with   a table's test still holds
+-- A set leaves one reservation for each target: the one that is set is in no table, so one more of it stands once.
 --     cycle-rules                     the cycle theorem's table
 --     lone-taken                      a target taken out of all four tables: every other still has one reservation
 --     lone-note, lone-wave, lone-sine, lone-cycle   and so has the target, once it is put into one of them
-use mathlib.Core.Path.{_≡_, refl, sym, ap, ap₂, _∙_}
-use mathlib.Core.Bool.{Bool, true, false, not, _&&_, true≢false}
+use mathlib.Core.Path.{_≡_, refl, sym, ap, _∙_}
+use mathlib.Core.Bool.{Bool, true}
 use mathlib.Core.List.{List, [], _∷_, _++_, map, map-append, append-assoc, append-nil}
-use Prim.Native.Nat.{ℕ, zero, suc, _+_, _-_, _≤_, _<_, max}
-use native.Mathlib.Omega.{arith}
-use borrow.Author.Tests.{leb-true, le-leb, eqb-true, eq-eqb, not-true}
+use Prim.Native.Nat.{ℕ, _+_, _-_, _≤_}
 use lib.Dec.{leb, eqb}
-use lib.ListN.{length, take, drop, length-append, length-take}
-use lib.Seq.{length-take-le, take-append-seam}
-use Rattle.laws.specs.Lists.{all, counted, unless, without, putFirst}
+use lib.ListN.{length, take, length-append}
+use lib.Seq.{length-take-le}
+use Rattle.laws.specs.Lists.{all, counted, without, putFirst}
 use Rattle.laws.specs.Keys.{absent, distinct}
-use Rattle.laws.proofs.Ranges.{left, right}
-use Rattle.laws.proofs.Compact.{length-without}
+use Rattle.laws.proofs.Ranges.{right}
+use Rattle.laws.proofs.Parts.{map-without, without-append}
+use Rattle.laws.proofs.Firsts.{shown, roomy}
+use Rattle.laws.proofs.Lone.{distinct-last, distinct-without, gone, distinct-insert}
 use Rattle.cycles.specs.declared.Cycle.{Cycle}
 use Rattle.numbers.specs.Limits.{places}
 use Rattle.cycles.specs.Due.{key}
@@ -29,119 +27,6 @@ use Rattle.tables.specs.declared.WaveTable.{WaveTable}
 use Rattle.tables.specs.declared.SineTable.{SineTable}
 use Rattle.tables.specs.declared.CycleTable.{CycleTable}
 use Rattle.tables.specs.Tables.{noNote, noWave, noSine, noCycle, noteAt, waveAt, sineAt, cycleAt, noteKeys, waveKeys, sineKeys, cycleKeys, notesLeft, wavesLeft, sinesLeft, cyclesLeft, notesWithout, wavesWithout, sinesWithout, cyclesWithout, notesWith, wavesWith, sinesWith, cyclesWith, okCycles, lone}
-
-module _ {A : Type 0} (z : A) (n : ℕ) (l : List A) where
-  -- what is put first is what counts
-  pub shown : (now : List A) → take (length now) (putFirst z n now l) ≡ now
-  shown now = take-append-seam now _
-
-  module _ (p : A → Bool) (most : ℕ) (e : counted n most p l ≡ true) where
-    few : n ≤ most
-    unfolding counted
-    few = leb-true n most (left (leb n most) (all p (take n l)) e)
-
-    each : all p (take n l) ≡ true
-    unfolding counted
-    each = right (leb n most) (all p (take n l)) e
-
-    pub counted-put : (now : List A) → length now ≤ most → all p now ≡ true → counted (length now) most p (putFirst z n now l) ≡ true
-    unfolding counted
-    counted-put now h a = rw (le-leb (length now) most h, shown now) a
-
-all-without : {A : Type 0} (p out : A → Bool) (l : List A) → all p l ≡ true → all p (without out l) ≡ true
-unfolding all
-all-without p out [] e = refl
-all-without p out (x ∷ l) e = go (out x) (all-without p out l (right (p x) (all p l) e))
-  where
-    go : (t : Bool) → all p (without out l) ≡ true → all p (unless t x (without out l)) ≡ true
-    go true ih = ih
-    go false ih = rw (left (p x) (all p l) e) ih
-
-all-append : {A : Type 0} (p : A → Bool) (xs ys : List A) → all p xs ≡ true → all p ys ≡ true → all p (xs ++ ys) ≡ true
-unfolding all
-all-append p [] ys a b = b
-all-append p (x ∷ xs) ys a b = rw (left (p x) (all p xs) a) (all-append p xs ys (right (p x) (all p xs) a) b)
-
-module _ {A : Type 0} (z : A) (n : ℕ) (l : List A) (p : A → Bool) (most : ℕ) (e : counted n most p l ≡ true) where
-  pub counted-without : (out : A → Bool) → (let now = without out (take n l) in counted (length now) most p (putFirst z n now l) ≡ true)
-  counted-without out =
-      let m = few z n l p most e in
-      counted-put z n l p most e (without out (take n l)) (omega (arith, length-without out (take n l), length-take n l))
-      (all-without p out (take n l) (each z n l p most e))
-
-  pub counted-with : (x : A) → n < most → n ≤ length l → p x ≡ true → counted (n + 1) most p (putFirst z n (take n l ++ (x ∷ [])) l) ≡ true
-  unfolding all
-  counted-with x h k q =
-      let m : length (take n l ++ (x ∷ [])) ≡ n + 1 = length-append (take n l) (x ∷ []) ∙ ap (λ (i : ℕ). i + 1) (length-take-le n l k) in
-      ap (λ (i : ℕ). counted i most p (putFirst z n (take n l ++ (x ∷ [])) l)) (sym m)
-      ∙ counted-put z n l p most e (take n l ++ (x ∷ [])) (omega arith) (all-append p (take n l) (x ∷ []) (each z n l p most e) (rw q))
-
--- ---- keys
-
--- another than k, asked either way round
-flip : (a k : ℕ) → eqb a k ≡ false → eqb k a ≡ false
-flip a k e = go (eqb k a) refl
-  where
-    go : (b : Bool) → eqb k a ≡ b → b ≡ false
-    go false q = refl
-    go true q = absurd (true≢false (sym (eq-eqb a k (sym (eqb-true k a q))) ∙ e))
-
-map-without : {A : Type 0} (f : A → ℕ) (out : ℕ → Bool) (l : List A) → map f (without (λ (x : A). out (f x)) l) ≡ without out (map f l)
-map-without f out [] = refl
-map-without f out (x ∷ l) = go (out (f x)) (map-without f out l)
-  where
-    go : (t : Bool) → map f (without (λ y. out (f y)) l) ≡ without out (map f l) → map f (unless t x (without (λ y. out (f y)) l)) ≡ unless t (f x) (without out (map f l))
-    go true ih = ih
-    go false ih = ap (λ (ks : List ℕ). f x ∷ ks) ih
-
-without-append : (out : ℕ → Bool) (a b : List ℕ) → without out (a ++ b) ≡ without out a ++ without out b
-without-append out [] b = refl
-without-append out (x ∷ a) b = go (out x) (without-append out a b)
-  where
-    go : (t : Bool) → without out (a ++ b) ≡ without out a ++ without out b → unless t x (without out (a ++ b)) ≡ unless t x (without out a) ++ without out b
-    go true ih = ih
-    go false ih = ap (λ (ks : List ℕ). x ∷ ks) ih
-
--- the keys that stay still stand once
-distinct-without : (out : ℕ → Bool) (ks : List ℕ) → distinct ks ≡ true → distinct (without out ks) ≡ true
-unfolding distinct absent
-distinct-without out [] e = refl
-distinct-without out (k ∷ ks) e = go (out k) (distinct-without out ks (right (absent k ks) (distinct ks) e))
-  where
-    go : (t : Bool) → distinct (without out ks) ≡ true → distinct (unless t k (without out ks)) ≡ true
-    go true ih = ih
-    go false ih = rw (all-without (λ (x : ℕ). not (eqb k x)) out ks (left (absent k ks) (distinct ks) e)) ih
-
--- the key that was taken out is gone
-gone : (k : ℕ) (ks : List ℕ) → absent k (without (λ (x : ℕ). eqb x k) ks) ≡ true
-unfolding absent all
-gone k [] = refl
-gone k (x ∷ ks) = go (eqb x k) refl (gone k ks)
-  where
-    go : (t : Bool) → eqb x k ≡ t → absent k (without (λ y. eqb y k) ks) ≡ true → absent k (unless t x (without (λ y. eqb y k) ks)) ≡ true
-    go true e ih = ih
-    go false e ih = rw (flip x k e) ih
-
--- a key that is nowhere else stands once, wherever it is put in
-distinct-insert : (k : ℕ) (xs ys : List ℕ) → distinct (xs ++ ys) ≡ true → absent k (xs ++ ys) ≡ true → distinct (xs ++ (k ∷ ys)) ≡ true
-unfolding distinct absent all
-distinct-insert k [] ys d a = rw a d
-distinct-insert k (x ∷ xs) ys d a =
-    let other = all (λ (y : ℕ). not (eqb x y)) (xs ++ ys) in
-    let here = not (eqb k x) in
-    let rest = all (λ (y : ℕ). not (eqb k y)) (xs ++ ys) in
-    rw (amid x xs ys (left other (distinct (xs ++ ys)) d) (flip k x (not-true (eqb k x) (left here rest a))))
-    (distinct-insert k xs ys (right other (distinct (xs ++ ys)) d) (right here rest a))
-  where
-    amid : (x : ℕ) (xs ys : List ℕ) → all (λ (y : ℕ). not (eqb x y)) (xs ++ ys) ≡ true → eqb x k ≡ false → all (λ (y : ℕ). not (eqb x y)) (xs ++ (k ∷ ys)) ≡ true
-    amid x [] ys a q = rw q a
-    amid x (z ∷ xs) ys a q =
-        rw (left (not (eqb x z)) (all (λ (y : ℕ). not (eqb x y)) (xs ++ ys)) a) (amid x xs ys (right (not (eqb x z)) (all (λ (y : ℕ). not (eqb x y)) (xs ++ ys)) a) q)
-
-distinct-last : (xs ys : List ℕ) → distinct (xs ++ ys) ≡ true → distinct ys ≡ true
-unfolding distinct
-distinct-last [] ys e = e
-distinct-last (x ∷ xs) ys e = distinct-last xs ys (right (absent x (xs ++ ys)) (distinct (xs ++ ys)) e)
 
 -- ---- the four tables
 
@@ -236,10 +121,6 @@ module _ (notes : NoteTable) (waves : WaveTable) (sines : SineTable) (cycles : C
       let r : others ≡ xs ++ ys = sym left-over ∙ q in
       distinct-insert k xs ys (ap distinct (sym r) ∙ still) (ap (absent k) (sym r) ∙ gone k (noteKeys notes ++ waveKeys waves ++ sineKeys sines ++ cycleKeys cycles))
 
-  -- a table that was put first has room for what counts of it
-  roomy : {A : Type 0} (z : A) (n : ℕ) (now l : List A) → length now ≤ length (putFirst z n now l)
-  roomy z n now l = rw length-append (omega arith)
-
   pub lone-note : (x : OnNoteValues) → key (x .target) ≡ k → lone (notesWith (notesWithout notes k) x) (wavesWithout waves k) (sinesWithout sines k) (cyclesWithout cycles k) ≡ true
   unfolding lone noteAt
   lone-note x q =
@@ -265,7 +146,7 @@ module _ (notes : NoteTable) (waves : WaveTable) (sines : SineTable) (cycles : C
       let more : sineKeys (sinesWith t x) ≡ sineKeys t ++ (k ∷ []) =
       keys-with (λ (y : OnNoteSine). key (y .target)) noSine (t .count) (t .items) x (roomy noSine (sines .count) (sinesLeft sines k) (sines .items))
       ∙ ap (λ (i : ℕ). sineKeys t ++ (i ∷ [])) q in
-      ap distinct (ap (λ (y : List ℕ). ns ++ ws ++ y ++ cs) more ∙ in-third k ns ws ss cs) ∙ lone-put (ns ++ ws ++ ss) cs (refl)
+      ap distinct (ap (λ (y : List ℕ). ns ++ ws ++ y ++ cs) more ∙ in-third k ns ws ss cs) ∙ lone-put (ns ++ ws ++ ss) cs refl
 
   pub lone-cycle : (x : Cycle) → key (x .target) ≡ k → lone (notesWithout notes k) (wavesWithout waves k) (sinesWithout sines k) (cyclesWith (cyclesWithout cycles k) x) ≡ true
   unfolding lone cycleAt
@@ -274,4 +155,4 @@ module _ (notes : NoteTable) (waves : WaveTable) (sines : SineTable) (cycles : C
       let more : cycleKeys (cyclesWith t x) ≡ cycleKeys t ++ (k ∷ []) =
       keys-with (λ (y : Cycle). key (y .target)) noCycle (t .count) (t .items) x (roomy noCycle (cycles .count) (cyclesLeft cycles k) (cycles .items))
       ∙ ap (λ (i : ℕ). cycleKeys t ++ (i ∷ [])) q in
-      ap distinct (ap (λ (y : List ℕ). ns ++ ws ++ ss ++ y) more ∙ in-last k (ns ++ ws ++ ss) cs) ∙ lone-put (ns ++ ws ++ ss ++ cs) ([]) (sym (append-nil (ns ++ ws ++ ss ++ cs)))
+      ap distinct (ap (λ (y : List ℕ). ns ++ ws ++ ss ++ y) more ∙ in-last k (ns ++ ws ++ ss) cs) ∙ lone-put (ns ++ ws ++ ss ++ cs) [] (sym (append-nil (ns ++ ws ++ ss ++ cs)))

@@ -1,3 +1,4 @@
 pub mod Closing
 pub mod Gathering
 pub mod Keeping
+pub mod Sines

@@ -3,7 +3,7 @@ use mathlib.Core.Bool.{Bool, not, _&&_, _||_}
 use Prim.Native.Nat.{ℕ}
 use lib.Dec.{leb, eqb}
 use lib.IntN.{pos}
-use lib.Signed.{leZ, ltZ}
+use lib.Signed.{ltZ}
 use Rattle.laws.specs.Lists.{all}
 use Rattle.numbers.specs.Ranges.{isTarget, isSineEnd, isLength}
 use Rattle.counted.specs.Numbers.{shown, okNumbers}

@@ -2,16 +2,13 @@
 // places from the count on are not read, and one that falls vacant is zeroed. A target is told apart by its key, both
 // bends being one (`cycles::key_of`).
 ghost use mathlib.Core.Path.{_≡_};
-ghost use mathlib.Core.List.{_++_, _∷_, []};
 ghost use Prim.Native.Nat.{_+_, _≤_, _<_};
-ghost use lib.Dec.{eqb};
-ghost use lib.ListN.{take, drop, getD};
-ghost use Rattle.laws.specs.Lists.{all, putFirst};
+ghost use lib.ListN.{drop, getD};
+ghost use Rattle.laws.specs.Lists.{all};
 ghost use Rattle.laws.specs.Keys.{absent, distinct};
 ghost use Rattle.numbers.specs.Limits.{places, listLimit};
 ghost use Rattle.counted.specs.Numbers.{shown};
 ghost use Rattle.counted.specs.Curves.{triples};
-ghost use Rattle.cycles.specs.Due.{key};
 ghost use Rattle.tables.specs.Reservations.{forward, okValues, okWave, okSine};
 ghost use Rattle.tables.specs.Tables.{noNote, noteAt, notesCleared, notesWithout, notesWith, okNotes, noWave, waveAt, wavesCleared, wavesWithout, wavesWith, okWaves, noSine, sineAt, sinesCleared, sinesWithout, sinesWith, okSines, noCycle, cycleAt, cyclesCleared, cyclesWithout, cyclesWith, okCycles, noteKeys, waveKeys, sineKeys, cycleKeys, keysShown, keysWith, lone};
 use counted::Numbers;

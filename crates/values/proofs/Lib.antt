@@ -1,3 +1,4 @@
 pub mod Targets
 pub mod Clamping
 pub mod Paying
+pub mod Options

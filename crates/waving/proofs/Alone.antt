@@ -10,8 +10,9 @@ use lib.IntN.{ℤ, pos, negsuc}
 use lib.ListN.{take}
 use Rattle.laws.specs.Integers.{inside}
 use Rattle.laws.specs.Lists.{all, counted}
-use Rattle.laws.specs.Keys.{absent, distinct}
+use Rattle.laws.specs.Keys.{distinct}
 use Rattle.laws.proofs.Ranges.{left, right}
+use Rattle.laws.proofs.Lone.{distinct-first, distinct-last}
 use Rattle.numbers.specs.Limits.{places}
 use Rattle.numbers.specs.Ranges.{isController, isTarget}
 use Rattle.cycles.specs.Due.{key}
@@ -21,6 +22,7 @@ use Rattle.tables.specs.declared.OnNoteWave.{OnNoteWave}
 use Rattle.tables.specs.declared.OnNoteSine.{OnNoteSine}
 use Rattle.tables.specs.Reservations.{okWave, okSine}
 use Rattle.tables.specs.Tables.{okWaves, okSines, noteKeys, waveKeys, sineKeys, cycleKeys, lone}
+use Rattle.tables.proofs.Sines.{sine-aimed}
 use Rattle.state.specs.declared.Track.{Track}
 use Rattle.state.specs.Track.{noCycles}
 use Rattle.state.specs.Tests.{okTrack}
@@ -28,7 +30,7 @@ use Rattle.state.proofs.Stored.{stored-waves, stored-sines, stored-lone}
 use Rattle.drawing.specs.Write.{writeOf}
 use Rattle.drawing.proofs.Asking.{some}
 use Rattle.waving.specs.Drawings.{waveDrawing, sineDrawing, drawingsOf}
-use Rattle.waving.proofs.Reserved.{wave-aimed, sine-aimed}
+use Rattle.waving.proofs.Reserved.{wave-aimed}
 use Rattle.waving.proofs.Parting.{keyAt, Placed, Lone}
 
 -- ---- lists
@@ -40,21 +42,6 @@ each-map f p P g (x ∷ l) e = (g x (left (p x) (all p l) e), each-map f p P g l
 map-both : {A B C : Type 0} (f : A → B) (g : B → C) (l : List A) → map g (map f l) ≡ map (λ (x : A). g (f x)) l
 map-both f g [] = refl
 map-both {C} f g (x ∷ l) = ap (λ (y : List C). g (f x) ∷ y) (map-both f g l)
-
-all-front : {A : Type 0} (p : A → Bool) (a b : List A) → all p (a ++ b) ≡ true → all p a ≡ true
-unfolding all
-all-front p [] b e = refl
-all-front p (x ∷ a) b e = rw (left (p x) (all p (a ++ b)) e) (all-front p a b (right (p x) (all p (a ++ b)) e))
-
-distinct-front : (a b : List ℕ) → distinct (a ++ b) ≡ true → distinct a ≡ true
-unfolding distinct absent
-distinct-front [] b e = refl
-distinct-front (x ∷ a) b e = rw (all-front _ a b (left (absent x (a ++ b)) (distinct (a ++ b)) e)) (distinct-front a b (right (absent x (a ++ b)) (distinct (a ++ b)) e))
-
-distinct-back : (a b : List ℕ) → distinct (a ++ b) ≡ true → distinct b ≡ true
-unfolding distinct
-distinct-back [] b e = e
-distinct-back (x ∷ a) b e = distinct-back a b (right (absent x (a ++ b)) (distinct (a ++ b)) e)
 
 -- ---- a target's two keys are one
 aimed-key : (z : ℤ) → isTarget z ≡ true → keyOf z ≡ pos (key z)
@@ -101,8 +88,8 @@ module _ (a : Track) (n : ℕ) where
         let N = noteKeys (a .notes) in
         let W = waveKeys (a .waves) in
         let S = sineKeys (a .sines) in
-        let e : distinct ((N ++ W) ++ S) ≡ true = distinct-front ((N ++ W) ++ S) (cycleKeys noCycles) (stored-lone a h) in
-        distinct-back N (W ++ S) (sym (ap distinct (append-assoc N W S)) ∙ e)
+        let e : distinct ((N ++ W) ++ S) ≡ true = distinct-first ((N ++ W) ++ S) (cycleKeys noCycles) (stored-lone a h) in
+        distinct-last N (W ++ S) (sym (ap distinct (append-assoc N W S)) ∙ e)
 
     pub drawings-lone : Lone (drawingsOf a n)
     unfolding drawingsOf

@@ -5,10 +5,11 @@ use Prim.Native.Nat.{ℕ, suc, _+_, _-_, _*_, _≤_, _<_, max}
 use native.Mathlib.Nat.{suc-mul, mul-le-mul, le-refl}
 use native.Mathlib.Numerals.{add-one}
 use native.Mathlib.Omega.{arith}
-use lib.ListN.{length, getD, take, drop, replicate, length-append, length-drop, length-replicate, take-append-drop, replicate-append-replicate, drop-of-length-le}
+use lib.ListN.{length, getD, take, drop, replicate, replicate-append-replicate, drop-of-length-le}
 use lib.Seq.{drop-cons, take-append-seam, drop-at, getD-take, length-take-le}
 use Rattle.laws.specs.Lists.{without, putFirst}
 use Rattle.laws.proofs.Compact.{length-without}
+use Rattle.laws.proofs.Firsts.{length-putFirst, put-same}
 use Rattle.events.specs.declared.Event.{Event}
 use Rattle.events.specs.Events.{zeroEvent}
 use Rattle.eventlist.specs.declared.Window.{Window}
@@ -20,11 +21,6 @@ pub all-append : (ws : List Window) (a b : List Event) → withoutAll ws (a ++ b
 unfolding withoutAll
 all-append [] a b = refl
 all-append (w ∷ ws) a b = ap (withoutAll ws) (without-append (takenBy w) a b) ∙ all-append ws (without (takenBy w) a) (without (takenBy w) b)
-
-pub all-le : (ws : List Window) (es : List Event) → length (withoutAll ws es) ≤ length es
-unfolding withoutAll
-all-le [] es = le-refl (length es)
-all-le (w ∷ ws) es = let a = all-le ws (without (takenBy w) es) in let b = length-without (takenBy w) es in omega arith
 
 gone-times : (ws : List Window) (es : List Event) → gone ws es ≤ length ws * length es
 unfolding gone
@@ -84,18 +80,6 @@ put-fewer z n count ks es R l k h =
     (sym (append-assoc (replicate (n - length ks) z) (replicate (count - length es) z) (drop count R))
     ∙ ap (λ (x : List Event). x ++ drop count R) (replicate-append-replicate (n - length ks) (count - length es) z ∙ ap (λ (j : ℕ). replicate j z) d)))
 
-put-same : (z : Event) (n : ℕ) (R : List Event) → n ≤ length R → putFirst z n (take n R) R ≡ R
-put-same z n R h =
-    let l = length-take-le n R h in
-    let a : n - length (take n R) ≡ 0 = omega arith in
-    let m : max n (length (take n R)) ≡ n = omega arith in
-    rw (a, m) (take-append-drop n R)
-
-length-put : (z : Event) (n : ℕ) (ks R : List Event) → length ks ≤ n → n ≤ length R → length (putFirst z n ks R) ≡ length R
-length-put z n ks R k h =
-    let m : max n (length ks) ≡ n = omega arith in
-    rw (m, length-append, length-append, length-replicate, length-drop) (omega arith)
-
 -- what a pass over the list keeps: R is the buffer R₀ after some windows were taken out of the first `count`, n of which are left
 pub record Cleared (all : List Window) (R₀ : List Event) (count : ℕ) (ws : List Window) (R : List Event) (n : ℕ) : Type 0 where
   pub fewer : n ≤ count
@@ -126,7 +110,7 @@ module _ (all : List Window) (R₀ : List Event) (count : ℕ) (h : count ≤ le
           fewer = omega arith;
           rows = b ∙ ap (λ (x : List Event). putFirst zeroEvent count x R₀) (sym k);
           rest = ap (withoutAll ws) k ∙ sym more ∙ v .rest;
-          same = ap length b ∙ length-put zeroEvent count ks R₀ (omega arith) h;
+          same = ap length b ∙ length-putFirst zeroEvent count ks R₀ h (omega arith);
         })
 
     pub clear-ended : (ws : List Window) → withoutAll ws (take n R) ≡ take n R → Cleared all R₀ count ws R n

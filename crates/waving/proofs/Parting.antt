@@ -2,12 +2,12 @@
 --     parted    one after the other leaves what the passes leave
 --     parts     no event is taken by two windows, so that what each takes may be counted by itself
 use mathlib.Core.Path.{_≡_, refl, sym, ap, ap₂, _∙_}
-use mathlib.Core.Bool.{Bool, true, false, cond, not, _&&_, true≢false}
+use mathlib.Core.Bool.{Bool, true, false, cond, not, true≢false}
 use mathlib.Core.List.{List, [], _∷_, _++_, map, append-assoc, append-nil}
 use Prim.Native.Nat.{ℕ, suc, _+_, _-_, _<_}
 use native.Mathlib.Omega.{arith}
 use lib.Dec.{eqb}
-use lib.IntN.{ℤ, pos, _+ℤ_}
+use lib.IntN.{pos, _+ℤ_}
 use lib.Signed.{leZ, ltZ}
 use lib.ListN.{length}
 use Rattle.laws.specs.Integers.{eqZ}
@@ -76,13 +76,10 @@ pub record Lone (ds : List Drawing) : Type 0 where
   pub placed : Each Placed ds
   pub once : distinct (map keyAt ds) ≡ true
 
-first : (x y : Bool) → (x && y) ≡ true → x ≡ true
-first x y e = left x y e
-
 -- what a window takes is its target's
 mine : (w : Write) (long : ℕ) (e : Event) → takenBy (windowOf w long) e ≡ true → belongs (w .target) e ≡ true
 unfolding takenBy windowOf belongs
-mine w long e h = first _ (leZ (startOf w) (e .time)) (first _ (ltZ (e .time) (startOf w +ℤ pos long)) h)
+mine w long e h = left _ (leZ (startOf w) (e .time)) (left _ (ltZ (e .time) (startOf w +ℤ pos long)) h)
 
 -- a window spares what is another target's
 abbrev Spares : Drawing → Window → Type 0

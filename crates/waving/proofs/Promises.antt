@@ -6,25 +6,24 @@
 --     note-times      whose times are those of events
 --     wave-fills      an Expand or a Repeat lasts the note's steps, cut to the step budget (offers: Starting.long)
 use mathlib.Core.Path.{_≡_, refl, sym, ap, _∙_}
-use mathlib.Core.Bool.{Bool, true, false, cond, _&&_, _||_}
-use mathlib.Core.List.{List, [], _∷_, _++_, map}
-use Prim.Native.Nat.{ℕ, zero, suc, _+_, _*_, _≤_, _<_, _^_, min}
+use mathlib.Core.Bool.{Bool, true, false, cond}
+use mathlib.Core.List.{List, [], _∷_, map}
+use Prim.Native.Nat.{ℕ, _+_, _*_, _≤_, _<_, _^_, min}
 use native.Mathlib.Omega.{arith}
 use borrow.Author.Tests.{ne-eqb}
-use lib.Dec.{eqb, leb}
+use lib.Dec.{eqb}
 use lib.IntN.{ℤ, pos}
 use lib.ListN.{length, getD, take}
-use Rattle.laws.specs.Integers.{inside, sized}
 use Rattle.laws.specs.Lists.{all}
-use Rattle.laws.proofs.Ranges.{left, right}
-use Rattle.numbers.specs.Ranges.{isTime, isNumber, isLength, isRandom, isEventTime}
+use Rattle.laws.proofs.Parts.{all-append}
+use Rattle.numbers.specs.Ranges.{isTime, isLength, isEventTime}
 use Rattle.budget.specs.declared.Budget.{Budget}
 use Rattle.budget.specs.Budgets.{stepBudget}
 use Rattle.counted.specs.Numbers.{shown}
 use Rattle.events.specs.declared.Event.{Event}
 use Rattle.sines.specs.Kinds.{sineType}
-use Rattle.values.specs.declared.WriteOption.{WriteOption}
-use Rattle.values.specs.Options.{newOption, okOption}
+use Rattle.values.specs.Options.{newOption}
+use Rattle.values.proofs.Options.{option-at, option-delay}
 use Rattle.cycles.specs.Due.{key}
 use Rattle.offers.specs.declared.Mode.{Mode}
 use Rattle.offers.specs.declared.Mode.the-variants.{Normal, Expand, Repeat}
@@ -37,6 +36,7 @@ use Rattle.writing.proofs.Promises.{in-time}
 use Rattle.tables.specs.declared.OnNoteWave.{OnNoteWave}
 use Rattle.tables.specs.declared.OnNoteSine.{OnNoteSine}
 use Rattle.tables.specs.Reservations.{okWave, okSine}
+use Rattle.tables.proofs.Sines.{sine-length, sine-times}
 use Rattle.state.specs.declared.Track.{Track}
 use Rattle.state.specs.Track.{withTimepos}
 use Rattle.state.specs.Tests.{okOptions, okTrack}
@@ -49,7 +49,7 @@ use Rattle.drawing.proofs.Asking.{some}
 use Rattle.waving.specs.Drawings.{Drawing, modeOf, waveDrawing, sineDrawing, drawingsOf}
 use Rattle.waving.specs.Calls.{Stand, leaves, drawn, drawnAll, noteSteps, afterNote, noteRefusal, noteWritten, noteLeft}
 use Rattle.waving.specs.Passes.{Passes, noPass, passFirst, passes, newsOf}
-use Rattle.waving.proofs.Reserved.{wave-fine, sine-length, sine-times}
+use Rattle.waving.proofs.Reserved.{wave-fine}
 use Rattle.waving.proofs.Passing.{pass-used, leaves-maximum}
 use Rattle.waving.proofs.Parting.{inPasses, parted}
 use Rattle.waving.proofs.Alone.{each-map, all-waves, all-sines, drawings-lone}
@@ -76,11 +76,6 @@ record Timely (d : Drawing) : Type 0 where
   delay : isLength (d .write .option .delay) ≡ true
   far : (b : Budget) → b .maximum ≤ 2 ^ 26 → total (d .pieces b) ≤ 2 ^ 40
 
-all-append : {A : Type 0} (p : A → Bool) (x y : List A) → all p x ≡ true → all p y ≡ true → all p (x ++ y) ≡ true
-unfolding all
-all-append p [] y e f = f
-all-append p (z ∷ x) y e f = rw (left (p z) (all p x) e) (all-append p x y (right (p z) (all p x) e) f)
-
 abbrev pub timed : Event → Bool
 timed e = isEventTime (e .time)
 
@@ -93,20 +88,6 @@ news-timed (d ∷ ds) b h m = go (eqb (b .over) 0) (news-timed ds (leaves d b) (
     go true ih = all-append timed (newsOf d b) (passes ds (leaves d b) .news) (in-time (d .write) b (d .pieces b) (stepBudget b) (h .0 .often) (h .0 .time) (h .0 .delay) (h .0 .far b m)) ih
     go false ih = refl
 
--- an option of a track that passes its test
-option-at : (l : List WriteOption) (i : ℕ) → all okOption l ≡ true → okOption (getD l i newOption) ≡ true
-unfolding all okOption isLength isRandom sized inside
-option-at [] i e = refl
-option-at (x ∷ l) zero e = left (okOption x) (all okOption l) e
-option-at (x ∷ l) (suc i) e = option-at l i (right (okOption x) (all okOption l) e)
-
-delayed : (o : WriteOption) → okOption o ≡ true → isLength (o .delay) ≡ true
-unfolding okOption
-delayed o e =
-    let ranged = eqb (o .ranged) 0 || (isNumber (o .low) && isNumber (o .high)) in
-    right (leb (o .ranged) 1 && leb (o .repeat) 1 && ranged) (isLength (o .delay))
-    (left (leb (o .ranged) 1 && leb (o .repeat) 1 && ranged && isLength (o .delay)) (isRandom (o .random)) e)
-
 few-steps : (n : ℕ) (b : Budget) → b .maximum ≤ 2 ^ 26 → min n (stepBudget b) ≤ 2 ^ 24
 few-steps n b h = omega arith
 
@@ -114,7 +95,7 @@ few-steps n b h = omega arith
 module _ (a : Track) (h : okTrack a ≡ true) where
   own-delay : (target : ℤ) → isLength (optionOf a target .delay) ≡ true
   unfolding optionOf okOptions
-  own-delay target = delayed (getD (a .options) (key target) newOption) (option-at (a .options) (key target) (track-options a h))
+  own-delay target = option-delay (getD (a .options) (key target) newOption) (option-at (a .options) (key target) (track-options a h))
 
   module _ (n : ℕ) where
     wave-timely : (e : OnNoteWave) → okWave e ≡ true → Timely (waveDrawing a n e)

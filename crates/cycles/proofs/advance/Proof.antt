@@ -1,14 +1,10 @@
 -- `cycles::advance`: the sum fits, and each number read back is itself.
-use mathlib.Core.Path.{_≡_, refl}
 use native.Mathlib.Omega.{arith}
-use borrow.Author.Needs.{needs}
 use mir.Syntax.{w32, w64}
-use mir.Val.{SFits, toZ, ofZ}
 use mir.Facts.{toZ-ofZ}
-use lib.IntN.{_+ℤ_}
 use Rattle.laws.proofs.Signed.{narrow-back}
 use Rattle.cycles.specs.Due.{advanced}
-use Rattle.cycles.proofs.Rules.{Sound, sound}
+use Rattle.cycles.proofs.Rules.{sound}
 use Rattle.cycles.proofs.Fitting.{fits-target, fits-length, fits-wide, fits-next, fits-sum}
 use Rattle.cycles.proofs.advance.Statement.{statement}
 use Rattle.cycles.proofs.advance.Tie as tie

@@ -1,14 +1,11 @@
 -- `cycles::due_count`: a difference that is not below 0, divided.
-use mathlib.Core.Path.{_≡_, sym}
 use native.Mathlib.Omega.{arith}
 use native.Mathlib.Nat.{div-le-self}
-use mir.Syntax.{w32, w64}
-use mir.Val.{toZ, ofZ}
 use mir.Facts.{toZ-ofZ}
 use lib.IntN.{natAbs, _-ℤ_}
 use Rattle.laws.specs.Integers.{cut}
 use Rattle.laws.proofs.Signed.{lt-back, sub-back}
-use Rattle.cycles.proofs.Rules.{Sound, sound}
+use Rattle.cycles.proofs.Rules.{sound}
 use Rattle.cycles.proofs.Fitting as F
 use Rattle.cycles.proofs.due_count.Statement.{statement}
 use Rattle.cycles.proofs.due_count.Tie as tie

@@ -1,16 +1,13 @@
 -- `cycles::key_of`: below 0, above 127 and between.
-use mathlib.Core.Path.{_≡_, refl, sym, ap, _∙_}
-use mathlib.Core.Bool.{Bool, true, false, true≢false}
-use Prim.Native.Nat.{ℕ, _≤_, _<_, min}
+use mathlib.Core.Path.{_≡_, sym, ap, _∙_}
+use mathlib.Core.Bool.{true, false, true≢false}
+use Prim.Native.Nat.{_<_}
 use native.Mathlib.Omega.{arith}
 use borrow.Author.Tests.{leb-true, leb-false}
-use lib.Dec.{T, leb}
+use lib.Dec.{T}
 use lib.IntN.{ℤ, pos, negsuc, natAbs}
 use lib.Signed.{leZ, nonNeg}
-use mir.Syntax.{w32, w64}
-use mir.Val.{Fits}
 use mir.Facts.{toZ-ofZ}
-use Rattle.laws.specs.Integers.{cut}
 use Rattle.laws.proofs.Signed.{le-back-l}
 use Rattle.cycles.specs.Due.{key}
 use Rattle.cycles.proofs.key_of.Statement.{statement}

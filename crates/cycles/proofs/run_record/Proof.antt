@@ -1,13 +1,10 @@
 -- `cycles::run_record`: the loop's invariant and its steps are proofs/Running's; here they meet the slice.
-use mathlib.Core.Path.{_≡_, refl, sym, ap, _∙_}
-use Prim.Native.Nat.{_+_, _-_, _≤_, _<_}
-use native.Mathlib.Omega.{arith}
+use mathlib.Core.Path.{_≡_, refl, _∙_}
+use Prim.Native.Nat.{_-_}
 use borrow.Author.Needs.{needs}
 use lib.ListN.{length}
-use lib.Signed.{ltZ}
 use mir.Syntax.{w64}
 use mir.Val.{SFits}
-use mir.Facts.{toZ-ofZ}
 use Rattle.laws.proofs.Signed.{lt-back}
 use Rattle.eventlist.specs.Rows.{rowsOf}
 use Rattle.cycles.proofs.Rules.{sound}

@@ -1,10 +1,9 @@
 -- `cycles::value_of`: the position is below the count, and that within the array.
-use mathlib.Core.Path.{_≡_, refl}
+use mathlib.Core.Path.{refl}
 use Prim.Native.Nat.{_≤_, _^_}
 use native.Mathlib.Omega.{arith}
-use borrow.Author.Needs.{needs}
 use lib.IntN.{pos}
-use lib.ListN.{length, getD}
+use lib.ListN.{getD}
 use lib.Signed.{mag}
 use mir.Syntax.{w32}
 use mir.Val.{SFits}
@@ -29,8 +28,7 @@ returns c =
     let x = c .before .before .args .c in
     let s = sound x (c .before .before .pre) in
     let f : SFits w32 (getD (x .values .items) (x .index) (pos 0)) = record { sfits = c .result .given } in
-    let m : length (x .values .items) ≡ 96 = search needs in
-    let b : mag (getD (x .values .items) (x .index) (pos 0)) ≤ 2 ^ 22 = sized-mag (2 ^ 22) _ (numbers-at (x .values) m (x .index) (s .numbers) (s .placed)) in
+    let b : mag (getD (x .values .items) (x .index) (pos 0)) ≤ 2 ^ 22 = sized-mag (2 ^ 22) _ (numbers-at (x .values) (x .index) (s .numbers) (s .placed)) in
     rw (toZ-ofZ f) (refl, b)
 
 pub value-of-spec : {M : Type 1} → statement M

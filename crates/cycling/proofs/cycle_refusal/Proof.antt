@@ -15,8 +15,9 @@ use Rattle.numbers.specs.Ranges.{isTime}
 use Rattle.budget.specs.Budgets.{okBudget, room}
 use Rattle.eventlist.specs.Rows.{recordWidth}
 use Rattle.state.specs.Tests.{okLent}
+use Rattle.state.proofs.Lent.{lent-counted}
 use Rattle.cycling.specs.Calls.{gainsOf, quickRefusal}
-use Rattle.cycling.proofs.Refusing.{is-time, is-lent, lent-counted}
+use Rattle.cycling.proofs.Refusing.{is-time, is-lent}
 use Rattle.cycling.proofs.cycle_refusal.Statement.{statement}
 use Rattle.cycling.proofs.cycle_refusal.Tie as tie
 

@@ -22,9 +22,10 @@ use Rattle.state.specs.declared.Track.{Track}
 use Rattle.state.specs.Tests.{okTrack, okLent}
 use Rattle.state.proofs.Parts.{track-play}
 use Rattle.state.proofs.Play.{play-channel}
+use Rattle.state.proofs.Lent.{lent-track, lent-counted}
 use Rattle.cycling.specs.declared.Cycled.{Cycled}
 use Rattle.cycling.specs.Calls.{cycleRefusal}
-use Rattle.cycling.proofs.Refusing.{quick, refused, listed, allowed, roomy, answer, list-left, is-time, is-lent, lent-track, lent-counted}
+use Rattle.cycling.proofs.Refusing.{quick, refused, listed, allowed, roomy, answer, list-left, is-time, is-lent}
 use Rattle.cycling.proofs.write_cc_on_cycle.Statement.{statement}
 use Rattle.cycling.proofs.write_cc_on_cycle.Tie as tie
 

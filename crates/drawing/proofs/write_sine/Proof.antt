@@ -12,12 +12,12 @@ use Rattle.eventlist.specs.Rows.{rowsOf}
 use Rattle.sines.specs.declared.SineType.{SineType}
 use Rattle.sines.specs.Kinds.{sineType}
 use Rattle.tables.specs.declared.OnNoteSine.{OnNoteSine}
+use Rattle.tables.proofs.Sines.{sine-low, sine-high, sine-length, sine-times}
 use Rattle.writing.specs.Sines.{sinePieces}
 use Rattle.writing.proofs.Writes.{told-of}
 use Rattle.drawing.specs.Write.{writeOf}
 use Rattle.drawing.specs.Calls.{Draw, drawWrite, sineFor, onSine}
 use Rattle.drawing.proofs.Drawn.{asked-draw, asked-as, refused, allowed-well, ready-draw, count-well, tried}
-use Rattle.drawing.proofs.Sines.{sine-low, sine-high, sine-length, sine-times}
 use Rattle.drawing.proofs.write_sine.Statement.{statement}
 use Rattle.drawing.proofs.write_sine.Tie as tie
 

@@ -9,7 +9,6 @@ use mir.Val.{SFits}
 use mir.Facts.{toZ-ofZ}
 use Rattle.laws.proofs.Signed.{mag-add, add-back}
 use Rattle.laws.proofs.Tests.{one-of}
-use Rattle.numbers.specs.Ranges.{isEventTime}
 use Rattle.notes.specs.Notes.{okEnd}
 use Rattle.notes.proofs.end_ok.Statement.{statement}
 use Rattle.notes.proofs.end_ok.Tie as tie

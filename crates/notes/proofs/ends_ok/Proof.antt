@@ -5,7 +5,7 @@ use mathlib.Core.Bool.{Bool, true}
 use mathlib.Core.Path.{_≡_, refl, sym, ap, _∙_}
 use Prim.Native.Nat.{_-_, _≤_}
 use native.Mathlib.Omega.{arith}
-use lib.ListN.{length, getD, take}
+use lib.ListN.{getD}
 use Rattle.laws.proofs.Tests.{Left, passed-of, failed-of, ended-of, no, yes}
 use Rattle.laws.proofs.Every.{all-below}
 use Rattle.laws.proofs.Every.{all-below}

@@ -1,6 +1,6 @@
 -- `normalize` meets its contract, as `split_note_off` does, in the list itself.
 use borrow.Author.Needs.{needs}
-use mathlib.Core.Path.{_≡_, refl, sym, ap, _∙_}
+use mathlib.Core.Path.{sym, _∙_}
 use native.Mathlib.Omega.{arith}
 use lib.ListN.{length}
 use Rattle.eventlist.proofs.EventRows.{length-rowsOf}

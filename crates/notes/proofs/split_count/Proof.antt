@@ -1,14 +1,13 @@
 -- `split_count` meets its contract: n is what comes of the first i events.
 use borrow.Author.Needs.{needs}
-use mathlib.Core.Path.{_≡_, refl, sym, ap, _∙_}
+use mathlib.Core.Path.{_≡_, refl, sym, _∙_}
 use Prim.Native.Nat.{_-_, _*_, _≤_}
 use native.Mathlib.Omega.{arith}
-use lib.ListN.{length, getD, take}
-use lib.Seq.{getD-take, length-take-le, take-take, take-all}
-use Rattle.events.specs.Events.{zeroEvent}
-use Rattle.eventlist.specs.Rows.{rowsOf, eventsOf}
+use lib.ListN.{length, take}
+use lib.Seq.{length-take-le}
+use Rattle.eventlist.specs.Rows.{rowsOf}
 use Rattle.eventlist.proofs.EventRows.{length-rowsOf}
-use Rattle.notes.specs.Notes.{splitNotes, isNote}
+use Rattle.notes.specs.Notes.{splitNotes}
 use Rattle.notes.proofs.Splitting.{short, count-note, count-plain}
 use Rattle.notes.proofs.split_count.Statement.{statement}
 use Rattle.notes.proofs.split_count.Tie as tie

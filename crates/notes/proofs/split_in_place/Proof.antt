@@ -11,7 +11,7 @@ use lib.Seq.{length-take-le}
 use Rattle.laws.proofs.Tests.{all-at}
 use Rattle.events.specs.declared.Event.{Event}
 use Rattle.events.specs.Events.{okEvent, zeroEvent}
-use Rattle.eventlist.specs.Rows.{rowsOf, eventsOf}
+use Rattle.eventlist.specs.Rows.{rowsOf}
 use Rattle.eventlist.specs.Sound.{okEvents}
 use Rattle.eventlist.proofs.EventRows.{length-rowsOf, same-rows}
 use Rattle.notes.specs.Notes.{isNote, offOf, splitNotes}

@@ -6,13 +6,13 @@ use mathlib.Core.Path.{_≡_, refl, sym, ap, _∙_, subst}
 use mathlib.Core.List.{List}
 use Prim.Native.Nat.{ℕ, _+_, _-_, _≤_, _<_}
 use native.Mathlib.Omega.{arith}
-use lib.ListN.{length, getD, set, take}
+use lib.ListN.{length, set, take}
 use Rattle.laws.proofs.Every.{all-below}
 use Rattle.laws.proofs.Every.{all-below}
 use Rattle.laws.proofs.Every.{all-below}
 use Rattle.events.specs.declared.Event.{Event}
 use Rattle.events.specs.Events.{okEvent, zeroEvent}
-use Rattle.eventlist.specs.Rows.{rowsOf, eventsOf}
+use Rattle.eventlist.specs.Rows.{rowsOf}
 use Rattle.eventlist.specs.Sound.{okEvents}
 use Rattle.eventlist.proofs.EventRows.{length-rowsOf, same-rows}
 use Rattle.notes.specs.Notes.{splitNotes, isNote}

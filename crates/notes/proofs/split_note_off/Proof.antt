@@ -1,7 +1,7 @@
 -- `split_note_off` meets its contract: the refusal's number decides (Refusing), and a split that is not refused may lean on
 -- what was tested.
 use borrow.Author.Needs.{needs}
-use mathlib.Core.Path.{_≡_, refl, sym, ap, _∙_}
+use mathlib.Core.Path.{sym, _∙_}
 use native.Mathlib.Omega.{arith}
 use lib.ListN.{length}
 use Rattle.eventlist.proofs.EventRows.{length-rowsOf}

@@ -1,10 +1,10 @@
 -- `value_of`: the place lies below the list's count, and that within the array.
-use mathlib.Core.Path.{_≡_, ap}
+use mathlib.Core.Path.{ap}
 use Prim.Native.Nat.{ℕ, _≤_, _<_, _^_}
 use native.Mathlib.Omega.{arith}
 use borrow.Author.Needs.{needs}
 use lib.IntN.{pos}
-use lib.ListN.{length, getD}
+use lib.ListN.{getD}
 use lib.Signed.{mag}
 use mir.Syntax.{w32}
 use mir.Val.{SFits}
@@ -42,8 +42,7 @@ returns c =
     let p = d .place-of .result in
     let f = sound x (s d .pre .0) in
     let g : SFits w32 (getD (x .values .items) p (pos 0)) = record { sfits = c .result .given } in
-    let m : length (x .values .items) ≡ 96 = search needs in
-    let b : mag (getD (x .values .items) p (pos 0)) ≤ 2 ^ 22 = sized-mag (2 ^ 22) _ (numbers-at (x .values) m p (f .numbers) (here d)) in
+    let b : mag (getD (x .values .items) p (pos 0)) ≤ 2 ^ 22 = sized-mag (2 ^ 22) _ (numbers-at (x .values) p (f .numbers) (here d)) in
     rw (toZ-ofZ g) (ap (λ (k : ℕ). getD (x .values .items) k (pos 0)) (d .place-of .ensures), b)
 
 pub value-of-spec : {M : Type 1} → statement M

@@ -3,8 +3,8 @@ use mathlib.Core.Path.{_≡_, ap, _∙_}
 use mathlib.Core.Bool.{Bool}
 use borrow.Author.Needs.{needs}
 use Rattle.state.specs.Tests.{okTrack}
+use Rattle.state.proofs.Answers.{refused-by, done-by}
 use Rattle.playing.specs.Calls.{asked, onLayers}
-use Rattle.playing.proofs.Answers.{refused, done}
 use Rattle.playing.proofs.layers_set.Statement.{statement}
 use Rattle.playing.proofs.layers_set.Tie as tie
 
@@ -20,11 +20,11 @@ asked-requires c κs = search needs
 
 returns : tie.Need-returns
 unfolding onLayers
-returns c = refused (code-is (c .before)) _ _ (c .if1 .taken)
+returns c = refused-by (code-is (c .before)) _ _ (c .if1 .taken)
 
 returns-2 : tie.Need-returns-2
 unfolding onLayers
-returns-2 c = done (code-is (c .before .before)) _ _ (c .before .if1 .left)
+returns-2 c = done-by (code-is (c .before .before)) _ _ (c .before .if1 .left)
 
 pub layers-set-spec : {M : Type 1} → statement M
 layers-set-spec = tie.close (tie.spec track-ok-requires asked-requires returns returns-2)

@@ -3,9 +3,9 @@ use mathlib.Core.Path.{_≡_, ap, _∙_}
 use mathlib.Core.Bool.{Bool, _&&_}
 use borrow.Author.Needs.{needs}
 use Rattle.state.specs.Calls.{answer}
+use Rattle.state.proofs.Answers.{refused-by, done-by}
 use Rattle.playing.specs.Which.{isParam}
 use Rattle.playing.specs.Calls.{asked, paramAsked, onParam}
-use Rattle.playing.proofs.Answers.{refused, done}
 use Rattle.playing.proofs.param_set.Statement.{statement}
 use Rattle.playing.proofs.param_set.Tie as tie
 
@@ -21,14 +21,14 @@ asked-requires c κs = search needs
 
 returns : tie.Need-returns
 unfolding onParam
-returns c = refused (code-is (c .before)) _ _ (c .if1 .taken)
+returns c = refused-by (code-is (c .before)) _ _ (c .if1 .taken)
 
 with-param-requires : tie.Need-with-param-requires
 with-param-requires c κs = search needs
 
 returns-2 : tie.Need-returns-2
 unfolding onParam
-returns-2 c = ap (answer 0) (c .with-param .ensures) ∙ done (code-is (c .before .before)) _ _ (c .before .if1 .left)
+returns-2 c = ap (answer 0) (c .with-param .ensures) ∙ done-by (code-is (c .before .before)) _ _ (c .before .if1 .left)
 
 pub param-set-spec : {M : Type 1} → statement M
 param-set-spec =

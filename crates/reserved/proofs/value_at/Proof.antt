@@ -36,10 +36,10 @@ abbrev high : tie.Start → ℤ
 high c = getD (c .args .t1 .items) (c .args .i * 3 + 1) (pos 0)
 
 low-size : (c : tie.Start) → mag (low c) ≤ 2 ^ 22
-low-size c = number-mag (low c) (numbers-at _ (room c) _ (curve-numbers _ (c .pre .0)) (omega arith))
+low-size c = number-mag (low c) (numbers-at _ _ (curve-numbers _ (c .pre .0)) (omega arith))
 
 high-size : (c : tie.Start) → mag (high c) ≤ 2 ^ 22
-high-size c = number-mag (high c) (numbers-at _ (room c) _ (curve-numbers _ (c .pre .0)) (omega arith))
+high-size c = number-mag (high c) (numbers-at _ _ (curve-numbers _ (c .pre .0)) (omega arith))
 
 low-back : (c : tie.Start) → toZ w64 (ofZ w64 (toZ w32 (ofZ w32 (low c)))) ≡ low c
 low-back c = let h = low-size c in narrow-back w32 w64 (omega arith) (omega arith)

@@ -3,8 +3,8 @@ use mathlib.Core.Path.{ap, _∙_}
 use borrow.Author.Needs.{needs}
 use Rattle.tables.specs.declared.CycleTable.{CycleTable}
 use Rattle.tables.specs.Tables.{cyclesWithout}
+use Rattle.state.proofs.Lent.{notes-few, waves-few, sines-few, cycles-few}
 use Rattle.reserving.specs.Clearing.{cleared}
-use Rattle.reserving.proofs.Lent.{notes-few, waves-few, sines-few, cycles-few}
 use Rattle.reserving.proofs.cleared.Statement.{statement}
 use Rattle.reserving.proofs.cleared.Tie as tie
 

@@ -9,9 +9,10 @@ use Rattle.tables.specs.Tables.{notesWithout}
 use Rattle.state.specs.Track.{withTables}
 use Rattle.state.specs.Calls.{answer}
 use Rattle.state.proofs.Stored.{notes-few}
+use Rattle.state.proofs.Answers.{refused-by, done-by}
 use Rattle.drawing.specs.Calls.{ccTarget}
 use Rattle.reserving.specs.Old.{aloneRefusal, removeCcOnNote}
-use Rattle.reserving.proofs.Alone.{refused, done, usable}
+use Rattle.reserving.proofs.Alone.{usable}
 use Rattle.reserving.proofs.Handing.{handed}
 use Rattle.reserving.proofs.remove_cc_on_note.Statement.{statement}
 use Rattle.reserving.proofs.remove_cc_on_note.Tie as tie
@@ -30,7 +31,7 @@ asked-alone-requires c κs = search needs
 
 returns : tie.Need-returns
 unfolding removeCcOnNote
-returns c = refused (code-is (c .before)) _ _ (c .if1 .taken)
+returns c = refused-by (code-is (c .before)) _ _ (c .if1 .taken)
 
 key-of-requires : tie.Need-key-of-requires
 key-of-requires c κs = search needs
@@ -48,7 +49,7 @@ returns-2 c =
     let a = e .before .before .before .args .track in
     ap (λ (t : NoteTable). answer 0 (withTables a t (a .waves) (a .sines) (a .cycles)))
     (c .take-note .ensures ∙ ap (notesWithout (a .notes)) (k .key-of .ensures ∙ ap key (aimed (e .before .before))))
-    ∙ done (code-is (e .before)) _ _ (e .if1 .left)
+    ∙ done-by (code-is (e .before)) _ _ (e .if1 .left)
 
 pub remove-cc-on-note-spec : {M : Type 1} → statement M
 remove-cc-on-note-spec =

@@ -10,9 +10,10 @@ use Rattle.tables.specs.Tables.{wavesWithout, sinesWithout}
 use Rattle.state.specs.Track.{withTables}
 use Rattle.state.specs.Calls.{answer}
 use Rattle.state.proofs.Stored.{waves-few, sines-few}
+use Rattle.state.proofs.Answers.{refused-by, done-by}
 use Rattle.drawing.specs.Calls.{ccTarget}
 use Rattle.reserving.specs.Old.{aloneRefusal, removeCcOnNoteWave}
-use Rattle.reserving.proofs.Alone.{refused, done, usable}
+use Rattle.reserving.proofs.Alone.{usable}
 use Rattle.reserving.proofs.Handing.{handed}
 use Rattle.reserving.proofs.remove_cc_on_note_wave.Statement.{statement}
 use Rattle.reserving.proofs.remove_cc_on_note_wave.Tie as tie
@@ -31,7 +32,7 @@ asked-alone-requires c κs = search needs
 
 returns : tie.Need-returns
 unfolding removeCcOnNoteWave
-returns c = refused (code-is (c .before)) _ _ (c .if1 .taken)
+returns c = refused-by (code-is (c .before)) _ _ (c .if1 .taken)
 
 key-of-requires : tie.Need-key-of-requires
 key-of-requires c κs = search needs
@@ -56,7 +57,7 @@ returns-2 c =
     let target = k .key-of .ensures ∙ ap key (aimed (e .before .before)) in
     ap₂ (λ (t : WaveTable) (u : SineTable). answer 0 (withTables a (a .notes) t u (a .cycles)))
     (w .take-wave .ensures ∙ ap (wavesWithout (a .waves)) target) (c .take-sine .ensures ∙ ap (sinesWithout (a .sines)) target)
-    ∙ done (code-is (e .before)) _ _ (e .if1 .left)
+    ∙ done-by (code-is (e .before)) _ _ (e .if1 .left)
 
 pub remove-cc-on-note-wave-spec : {M : Type 1} → statement M
 remove-cc-on-note-wave-spec =

@@ -1,5 +1,5 @@
 -- `lent_ok` tests the track, then the cycles that it counts, and then all four kinds at once.
-use mathlib.Core.Path.{_≡_, sym, ap, _∙_}
+use mathlib.Core.Path.{sym, ap, _∙_}
 use Rattle.laws.proofs.Tests.{no, yes, and-no, and-yes}
 use Rattle.tables.specs.Tables.{okCycles, lone}
 use Rattle.state.specs.Tests.{okLent}

@@ -6,10 +6,10 @@ use native.Mathlib.Omega.{arith}
 use borrow.Author.Needs.{needs}
 use lib.ListN.{length}
 use Rattle.laws.proofs.Taking.{Clearing, clear-none}
+use Rattle.laws.proofs.Reading.{length-told}
 use Rattle.tables.specs.declared.OnNoteValues.{OnNoteValues}
-use Rattle.tables.specs.declared.NoteTable.{NoteTable}
 use Rattle.tables.specs.Tables.{noNote}
-use Rattle.tables.proofs.Closing.{as-long, clear-one, all-clear}
+use Rattle.tables.proofs.Closing.{clear-one, all-clear}
 use Rattle.tables.proofs.clear_notes.Statement.{statement}
 use Rattle.tables.proofs.clear_notes.Tie as tie
 
@@ -23,7 +23,7 @@ loop-holds : tie.Need-loop-holds Inv-loop μ-loop
 loop-holds c =
     let s = c .before in
     let t = s .args .table in
-    let m : length (t .items) ≡ 16 = search (needs, as-long) in
+    let m : length (t .items) ≡ 16 = search (needs, length-told) in
     clear-none (λ (x : List OnNoteValues). x) noNote (t .items) (t .count) (s .args .from) (s .pre .0) (omega arith)
 
 no-note-requires : tie.Need-no-note-requires Inv-loop μ-loop
@@ -46,7 +46,7 @@ loop-again c =
     let l = c .before .before in
     let s = l .before .before in
     let t = s .args .table in
-    let m : length (t .items) ≡ 16 = search (needs, as-long) in
+    let m : length (t .items) ≡ 16 = search (needs, length-told) in
     clear-one noNote (t .items) (l .loop .items) (t .count) (s .args .from) (l .loop .i) (l .loop .inv) (omega arith) (search needs) (c .no-note .result) (c .no-note .ensures)
 
 returns : tie.Need-returns Inv-loop μ-loop
@@ -54,7 +54,7 @@ returns c =
     let l = c .before in
     let s = l .before .before in
     let t = s .args .table in
-    let m : length (t .items) ≡ 16 = search (needs, as-long) in
+    let m : length (t .items) ≡ 16 = search (needs, length-told) in
     ap (λ (x : List OnNoteValues). record { count = s .args .from; items = x })
     (all-clear noNote (t .items) (l .loop .items) (t .count) (s .args .from) (l .loop .i) (l .loop .inv) (omega arith) (search needs))
 

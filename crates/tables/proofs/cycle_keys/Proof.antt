@@ -1,7 +1,7 @@
 -- `tables::cycle_keys`: one more key stands behind those gathered at each turn.
 use mathlib.Core.Path.{_≡_, ap, ap₂, _∙_}
 use mathlib.Core.List.{List, []}
-use Prim.Native.Nat.{ℕ, _+_, _-_}
+use Prim.Native.Nat.{ℕ, _-_}
 use native.Mathlib.Omega.{arith}
 use borrow.Author.Needs.{needs}
 use lib.IntN.{pos}
@@ -9,10 +9,9 @@ use lib.ListN.{length, getD}
 use mir.Syntax.{w32}
 use mir.Val.{SFits}
 use mir.Facts.{toZ-ofZ}
+use Rattle.laws.proofs.Reading.{length-told}
 use Rattle.cycles.specs.declared.Cycle.{Cycle}
 use Rattle.cycles.specs.Due.{key}
-use Rattle.tables.specs.declared.Keys.{Keys}
-use Rattle.tables.proofs.Closing.{as-long}
 use Rattle.tables.proofs.Gathering.{Gathering, nothing-yet, one-further, all-in}
 use Rattle.tables.proofs.cycle_keys.Statement.{statement}
 use Rattle.tables.proofs.cycle_keys.Tie as tie
@@ -64,7 +63,7 @@ loop-again c =
     let l = c .before .before .before .before in
     let s = l .before .before in
     let a = s .args in
-    let n : length (a .t1 .items) ≡ 16 = search (needs, as-long) in
+    let n : length (a .t1 .items) ≡ 16 = search (needs, length-told) in
     let m : length (a .keys .items) ≡ 64 = search needs in
     let f : SFits w32 (getD (a .t1 .items) (l .loop .i) past .target) = record { sfits = c .before .struct-told .given .0 .1 } in
     one-further keyOf (a .t1 .items) (a .keys .items) (a .keys .count) (a .t1 .count) (omega (arith, s .pre .0)) (l .loop .items) (l .loop .i) (c .key-of .result) past (l .loop .inv)
@@ -78,7 +77,7 @@ returns c =
     let l = c .before in
     let s = l .before .before in
     let a = s .args in
-    let n : length (a .t1 .items) ≡ 16 = search (needs, as-long) in
+    let n : length (a .t1 .items) ≡ 16 = search (needs, length-told) in
     let r = all-in keyOf (a .t1 .items) (a .keys .items) (a .keys .count) (a .t1 .count) (omega (arith, s .pre .0)) (l .loop .items) (l .loop .i) (l .loop .inv) (search needs) in
     ap₂ (λ (k : ℕ) (x : List ℕ). record { count = k; items = x }) (r .0) (r .1)
 

@@ -4,9 +4,9 @@ use Prim.Native.Nat.{_-_, _≤_}
 use borrow.Author.Needs.{needs}
 use lib.ListN.{take, length}
 use Rattle.laws.proofs.Tests.{Left, passed-of, counted-over, counted-no, counted-yes, no, yes}
+use Rattle.laws.proofs.Reading.{length-told}
 use Rattle.cycles.specs.Rules.{okCycle}
 use Rattle.tables.specs.Tables.{okCycles}
-use Rattle.tables.proofs.Closing.{as-long}
 use Rattle.tables.proofs.cycles_ok.Statement.{statement}
 use Rattle.tables.proofs.cycles_ok.Tie as tie
 
@@ -37,7 +37,7 @@ unfolding okCycles
 returns-2 c =
     let l = c .before .before .before .before in
     let t = l .before .before .args .t1 in
-    let e : length (t .items) ≡ 16 = search (needs, as-long) in
+    let e : length (t .items) ≡ 16 = search (needs, length-told) in
     counted-no okCycle (t .count) 16 (t .items) (l .loop .i) _ (search needs) e (search needs)
     (no (c .before .cycle-ok .ensures) (c .if2 .taken)) (l .loop .inv .1)
 
@@ -51,7 +51,7 @@ loop-again : tie.Need-loop-again Inv-loop μ-loop
 loop-again c =
     let l = c .before .before .before .before in
     let t = l .before .before .args .t1 in
-    let e : length (t .items) ≡ 16 = search (needs, as-long) in (
+    let e : length (t .items) ≡ 16 = search (needs, length-told) in (
       search needs,
       passed-of okCycle (t .count) (t .items) (l .loop .i) _ (search needs) (search needs) (yes (c .before .cycle-ok .ensures) (c .if2 .left)) (l .loop .inv .1),
     )
@@ -60,7 +60,7 @@ returns-3 : tie.Need-returns-3 Inv-loop μ-loop
 unfolding okCycles
 returns-3 c =
     let t = c .before .before .before .args .t1 in
-    let e : length (t .items) ≡ 16 = search (needs, as-long) in
+    let e : length (t .items) ≡ 16 = search (needs, length-told) in
     counted-yes okCycle (t .count) 16 (t .items) (c .before .loop .i) (search needs) e (search needs) (c .before .loop .inv .1)
 
 pub cycles-ok-spec : {M : Type 1} → statement M

@@ -1,10 +1,9 @@
 -- `tables::keys_alone`: each key against those behind it; what is left decides (laws, Keys).
 use mathlib.Core.Path.{_≡_, refl, ap, _∙_}
-use mathlib.Core.Bool.{Bool, true, false}
-use Prim.Native.Nat.{ℕ, _+_, _-_, _≤_, _<_}
+use Prim.Native.Nat.{ℕ, _+_, _-_, _≤_}
 use native.Mathlib.Omega.{arith}
 use borrow.Author.Needs.{needs}
-use lib.ListN.{length, getD, take, drop}
+use lib.ListN.{length, take, drop}
 use lib.Seq.{length-take-le, getD-take}
 use Rattle.laws.specs.Keys.{absent}
 use Rattle.laws.proofs.Keys.{Rest, one-alone, one-twice, none-left}

@@ -1,7 +1,6 @@
 -- `tables::lone_ok`: after each table its keys stand behind those before it (`Room`), so in the end all four are asked.
-use mathlib.Core.Path.{_≡_, refl, ap, _∙_}
-use mathlib.Core.List.{List, [], _++_}
-use Prim.Native.Nat.{ℕ, _≤_}
+use mathlib.Core.Path.{refl, ap, _∙_}
+use mathlib.Core.List.{[], _++_}
 use native.Mathlib.Omega.{arith}
 use borrow.Author.Needs.{needs}
 use lib.ListN.{replicate}

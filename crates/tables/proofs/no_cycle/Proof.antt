@@ -1,10 +1,8 @@
 -- `tables::no_cycle`: the empty list stands in it.
-use mathlib.Core.Path.{_≡_, ap}
+use mathlib.Core.Path.{ap}
 use borrow.Author.Needs.{needs}
 use lib.IntN.{pos}
 use Rattle.counted.specs.declared.Numbers.{Numbers}
-use Rattle.cycles.specs.declared.Cycle.{Cycle}
-use Rattle.tables.specs.Tables.{noCycle}
 use Rattle.tables.proofs.no_cycle.Statement.{statement}
 use Rattle.tables.proofs.no_cycle.Tie as tie
 

@@ -1,10 +1,8 @@
 -- `tables::no_note`: the empty list stands in it.
-use mathlib.Core.Path.{_≡_, ap}
+use mathlib.Core.Path.{ap}
 use borrow.Author.Needs.{needs}
 use lib.IntN.{pos}
 use Rattle.counted.specs.declared.Numbers.{Numbers}
-use Rattle.tables.specs.declared.OnNoteValues.{OnNoteValues}
-use Rattle.tables.specs.Tables.{noNote}
 use Rattle.tables.proofs.no_note.Statement.{statement}
 use Rattle.tables.proofs.no_note.Tie as tie
 

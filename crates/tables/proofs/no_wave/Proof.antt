@@ -1,10 +1,8 @@
 -- `tables::no_wave`: the empty list stands in it.
-use mathlib.Core.Path.{_≡_, ap}
+use mathlib.Core.Path.{ap}
 use borrow.Author.Needs.{needs}
 use lib.IntN.{pos}
 use Rattle.counted.specs.declared.Numbers.{Numbers}
-use Rattle.tables.specs.declared.OnNoteWave.{OnNoteWave}
-use Rattle.tables.specs.Tables.{noWave}
 use Rattle.tables.proofs.no_wave.Statement.{statement}
 use Rattle.tables.proofs.no_wave.Tie as tie
 

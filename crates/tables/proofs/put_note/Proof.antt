@@ -5,10 +5,9 @@ use Prim.Native.Nat.{_+_}
 use borrow.Author.Needs.{needs}
 use lib.ListN.{length}
 use Rattle.laws.proofs.Compact.{put-more}
+use Rattle.laws.proofs.Reading.{length-told}
 use Rattle.tables.specs.declared.OnNoteValues.{OnNoteValues}
-use Rattle.tables.specs.declared.NoteTable.{NoteTable}
 use Rattle.tables.specs.Tables.{noNote}
-use Rattle.tables.proofs.Closing.{as-long}
 use Rattle.tables.proofs.put_note.Statement.{statement}
 use Rattle.tables.proofs.put_note.Tie as tie
 
@@ -24,7 +23,7 @@ add-t5 c = search needs
 returns : tie.Need-returns
 returns c =
     let a = c .before .args in
-    let m : length (a .table .items) ≡ 16 = search (needs, as-long) in
+    let m : length (a .table .items) ≡ 16 = search (needs, length-told) in
     ap (λ (x : List OnNoteValues). record { count = a .table .count + 1; items = x })
     (put-more noNote (a .e) (a .table .count) (a .table .items) (search needs))
 

@@ -5,10 +5,9 @@ use Prim.Native.Nat.{_+_}
 use borrow.Author.Needs.{needs}
 use lib.ListN.{length}
 use Rattle.laws.proofs.Compact.{put-more}
+use Rattle.laws.proofs.Reading.{length-told}
 use Rattle.tables.specs.declared.OnNoteWave.{OnNoteWave}
-use Rattle.tables.specs.declared.WaveTable.{WaveTable}
 use Rattle.tables.specs.Tables.{noWave}
-use Rattle.tables.proofs.Closing.{as-long}
 use Rattle.tables.proofs.put_wave.Statement.{statement}
 use Rattle.tables.proofs.put_wave.Tie as tie
 
@@ -24,7 +23,7 @@ add-t5 c = search needs
 returns : tie.Need-returns
 returns c =
     let a = c .before .args in
-    let m : length (a .table .items) ≡ 16 = search (needs, as-long) in
+    let m : length (a .table .items) ≡ 16 = search (needs, length-told) in
     ap (λ (x : List OnNoteWave). record { count = a .table .count + 1; items = x })
     (put-more noWave (a .e) (a .table .count) (a .table .items) (search needs))
 

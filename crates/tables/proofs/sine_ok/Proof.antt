@@ -1,5 +1,5 @@
 -- `tables::sine_ok`: each test, read back, joined.
-use mathlib.Core.Path.{_≡_, refl}
+use mathlib.Core.Path.{refl}
 use borrow.Author.Needs.{needs}
 use lib.Dec.{leb}
 use mir.Syntax.{w32}

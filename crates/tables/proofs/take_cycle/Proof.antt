@@ -6,10 +6,10 @@ use native.Mathlib.Omega.{arith}
 use borrow.Author.Needs.{needs}
 use lib.ListN.{length}
 use Rattle.laws.proofs.Taking.{Compacting}
+use Rattle.laws.proofs.Reading.{length-told}
 use Rattle.cycles.specs.declared.Cycle.{Cycle}
-use Rattle.tables.specs.declared.CycleTable.{CycleTable}
 use Rattle.tables.specs.Tables.{noCycle, cycleAt}
-use Rattle.tables.proofs.Closing.{as-long, few, drop-one, keep-one, finished}
+use Rattle.tables.proofs.Closing.{few, drop-one, keep-one, finished}
 use Rattle.tables.proofs.take_cycle.Statement.{statement}
 use Rattle.tables.proofs.take_cycle.Tie as tie
 
@@ -40,7 +40,7 @@ loop-less c = search needs
 -- what is kept is no more than was passed
 module _ (l : tie.At-loop Inv-loop μ-loop) where
   long : length (l .before .before .args .table .items) ≡ 16
-  long = search (needs, as-long)
+  long = search (needs, length-told)
 
   n-at : l .loop .n ≤ l .loop .i
   n-at =

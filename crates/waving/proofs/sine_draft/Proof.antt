@@ -13,10 +13,10 @@ use Rattle.values.specs.declared.Write.{Write}
 use Rattle.values.specs.Value.{Ready}
 use Rattle.offers.specs.Waves.{triples}
 use Rattle.writing.specs.Sines.{sinePieces}
+use Rattle.tables.proofs.Sines.{sine-low, sine-high, sine-length, sine-times, sine-shape}
 use Rattle.drawing.specs.Write.{writeOf}
 use Rattle.drawing.proofs.Asking.{track-ready}
 use Rattle.waving.specs.Drawings.{sineDrawing}
-use Rattle.waving.proofs.Reserved.{sine-low, sine-high, sine-length, sine-times, sine-shape}
 use borrow.Author.Needs.{needs}
 use Rattle.waving.proofs.sine_draft.Statement.{statement}
 use Rattle.waving.proofs.sine_draft.Tie as tie

@@ -1,13 +1,16 @@
 -- What the test of a sine says of its numbers, as a write asks it.
+--     sine-aimed, sine-shape        it has a target, and one of three shapes
+--     sine-low .. sine-times        its ends and its lengths
 use mathlib.Core.Path.{_≡_}
 use mathlib.Core.Bool.{Bool, true, _&&_}
 use Prim.Native.Nat.{_≤_, _^_}
+use borrow.Author.Tests.{leb-true}
 use lib.Dec.{leb}
 use lib.Signed.{mag}
 use Rattle.laws.proofs.Ranges.{left, right, sized-mag}
 use Rattle.numbers.specs.Ranges.{isTarget, isSineEnd, isLength}
 use Rattle.tables.specs.declared.OnNoteSine.{OnNoteSine}
 use Rattle.tables.specs.Reservations.{okSine}
 
 module _ (s : OnNoteSine) (e : okSine s ≡ true) where
   abbrev two : Bool
@@ -29,9 +32,21 @@ module _ (s : OnNoteSine) (e : okSine s ≡ true) where
   to-four : four ≡ true
   to-four = left four (isLength (s .length)) to-five
 
+  to-three : three ≡ true
+  to-three = left three (isSineEnd (s .high)) to-four
+
+  to-two : two ≡ true
+  to-two = left two (isSineEnd (s .low)) to-three
+
+  pub sine-aimed : isTarget (s .target) ≡ true
+  sine-aimed = left (isTarget (s .target)) (leb (s .shape) 2) to-two
+
+  pub sine-shape : s .shape ≤ 2
+  sine-shape = leb-true (s .shape) 2 (right (isTarget (s .target)) (leb (s .shape) 2) to-two)
+
   pub sine-low : mag (s .low) ≤ 16383
   unfolding isSineEnd
-  sine-low = sized-mag 16383 (s .low) (right two (isSineEnd (s .low)) (left three (isSineEnd (s .high)) to-four))
+  sine-low = sized-mag 16383 (s .low) (right two (isSineEnd (s .low)) to-three)
 
   pub sine-high : mag (s .high) ≤ 16383
   unfolding isSineEnd
