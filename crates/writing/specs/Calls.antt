@@ -51,6 +51,9 @@ module _ (w : Write) (b : Budget) (os : List Offer) (long : ℕ) where
 abbrev pub newEventsFor : Write → Budget → List Piece → List Event
 newEventsFor w b ts = newEvents (ruleOf w) b (offers (w .freq) ts (stepBudget b) 0)
 
+abbrev pub lacksRoomFor : Write → Budget → List Piece → List Event → ℕ → Bool
+lacksRoomFor w b ts R count = lacksRoom w b (offers (w .freq) ts (stepBudget b) 0) (total ts) R count
+
 abbrev pub outcomeFor : Write → Budget → List Piece → List Event → ℕ → Outcome
 outcomeFor w b ts R count = outcomeOf w b (offers (w .freq) ts (stepBudget b) 0) (total ts) R count
 

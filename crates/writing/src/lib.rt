@@ -20,7 +20,7 @@ ghost use Rattle.offers.specs.declared.Piece.{Piece};
 ghost use Rattle.offers.specs.Waves.{triples, triplesOf};
 ghost use Rattle.offers.specs.Sources.{restOf, Runs, Fine};
 ghost use Rattle.writing.specs.Origins.{piecesOf, Asked};
-ghost use Rattle.writing.specs.Calls.{windowOf, newEventsFor, outcomeFor, rowsFor};
+ghost use Rattle.writing.specs.Calls.{windowOf, newEventsFor, lacksRoomFor, outcomeFor, rowsFor};
 ghost use Rattle.writing.specs.Waves.{cutBy, waveTriples, waveOutcome, waveRows};
 ghost use Rattle.writing.specs.Figures.{budgetFor, addedTo, Shaped};
 ghost use Rattle.writing.specs.Sines.{sinePiece, sinePieces};
@@ -304,6 +304,32 @@ fn lacks_room(
     free < ((after.used - b.used) / 8) as usize
 }
 
+// Whether the list that a write would leave has no room. Where the steps all find a place behind the list as it is, nobody
+// has to count what the window leaves.
+fn is_full(
+    w: Write,
+    b: Budget,
+    origin: Origin,
+    long: u64,
+    window: Window,
+    numbers: &[i32],
+    events: &[i64],
+    count: usize,
+    quarter: &[u32; 1025],
+) -> bool
+    requires { ⌜ Ready w × Asked (triples (now numbers)) origin × (now quarter ≡ quarterTable) × (long ≡ total (piecesOf (triples (now numbers)) origin)) ⌝ }
+    requires { ⌜ (window ≡ windowOf w long) × (count ≤ length (rowsOf (now events))) ⌝ }
+    ensures { λ r. ⌜ r ≡ lacksRoomFor w b (piecesOf (triples (now (numbers .entry))) origin) (rowsOf (now (events .entry))) count ⌝ }
+{
+    let limit = budget::safe_iteration_limit(b) as u64;
+    let rows = events.len() / 8;
+    if least(long, limit) <= (rows - count) as u64 {
+        return false;
+    }
+    let kept = eventlist::count_kept(events, count, window);
+    lacks_room(w, b, origin, long, numbers, rows - kept, quarter)
+}
+
 // A write of `long` steps, of any origin: its window is taken out and its events are appended; or, where the list that this
 // would leave has no room, nothing is changed and the answer is 7.
 pub fn write_core(
@@ -321,9 +347,7 @@ pub fn write_core(
         × (rowsOf (now (events .exit)) ≡ rowsFor w b (piecesOf (triples (now (numbers .entry))) origin) (rowsOf (now (events .entry))) count) ⌝ }
 {
     let window = window_of(w, long);
-    let kept = eventlist::count_kept(events, count, window);
-    let free = events.len() / 8 - kept;
-    if lacks_room(w, b, origin, long, numbers, free, quarter) {
+    if is_full(w, b, origin, long, window, numbers, events, count, quarter) {
         return Outcome {
             code: 7,
             count: count,

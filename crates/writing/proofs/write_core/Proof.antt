@@ -51,42 +51,19 @@ done n b = record { code = 0; count = n; budget = b }
 abbrev R : tie.Start → List Event
 R s = rowsOf (s .args .events .now)
 
-module _ (c : tie.After-count-kept) where
-  abbrev s : tie.Start
-  s = c .before .before .before
-
-  long-is : s .args .long ≡ total (ts s)
-  long-is = s .pre .3
-
-  window-is : c .before .before .window-of .result ≡ windowOf (s .args .w) (total (ts s))
-  window-is = c .before .before .window-of .ensures ∙ ap (windowOf (s .args .w)) long-is
-
-  kept-is : c .count-kept .result ≡ length (keptEvents (s .args .w) (total (ts s)) (take (s .args .count) (R s)))
-  unfolding keptEvents
-  kept-is = c .count-kept .ensures ∙ ap (λ (v : Window). length (without (takenBy v) (take (s .args .count) (R s)))) window-is
-
-  kept-fits : c .count-kept .result ≤ length (R s)
-  unfolding keptEvents
-  kept-fits =
-      let k = kept-is in
-      let p = s .pre .4 in
-      let t = length-take-le (s .args .count) (R s) p in
-      omega (arith, length-without (takenBy (windowOf (s .args .w) (total (ts s)))) (take (s .args .count) (R s)))
-
--- the refusal
-module _ (c : tie.After-lacks-room) where
+module _ (c : tie.After-is-full) where
   abbrev a : tie.Start
-  a = s (c .before)
+  a = c .before .before .before
 
-  lacks : c .lacks-room .result ≡ lacksRoom (a .args .w) (a .args .b) (all a) (total (ts a)) (R a) (a .args .count)
-  lacks =
-      c .lacks-room .ensures
-      ∙ ap (λ (n : ℕ). ltb (n - c .before .count-kept .result) (length (newEvents (ruleOf (a .args .w)) (a .args .b) (all a)))) (sym (length-rowsOf (a .args .events .now)))
-      ∙ lacks-is (a .args .w) (a .args .b) (all a) (total (ts a)) (R a) (a .args .count) (c .before .count-kept .result) (kept-is (c .before)) (kept-fits (c .before))
+  long-is : a .args .long ≡ total (ts a)
+  long-is = a .pre .3
+
+  window-is : c .before .before .window-of .result ≡ windowOf (a .args .w) (total (ts a))
+  window-is = c .before .before .window-of .ensures ∙ ap (windowOf (a .args .w)) long-is
 
 -- after the window is taken out
 module _ (c : tie.After-take-out) where
-  abbrev asked : tie.After-lacks-room
+  abbrev asked : tie.After-is-full
   asked = c .before .before .before
 
   abbrev began : tie.Start
@@ -100,16 +77,16 @@ module _ (c : tie.After-take-out) where
 
   left-is : c .take-out .result ≡ length keeps
   unfolding keptEvents
-  left-is = c .take-out .ensures .0 ∙ ap (λ (v : Window). length (without (takenBy v) (take (began .args .count) (R began)))) (window-is (asked .before))
+  left-is = c .take-out .ensures .0 ∙ ap (λ (v : Window). length (without (takenBy v) (take (began .args .count) (R began)))) (window-is asked)
 
   rows-are : rowsOf (c .take-out .last .0) ≡ putFirst zeroEvent (began .args .count) keeps (R began)
   unfolding keptEvents
   rows-are =
       c .take-out .ensures .1
-      ∙ ap (λ (v : Window). putFirst zeroEvent (began .args .count) (without (takenBy v) (take (began .args .count) (R began))) (R began)) (window-is (asked .before))
+      ∙ ap (λ (v : Window). putFirst zeroEvent (began .args .count) (without (takenBy v) (take (began .args .count) (R began))) (R began)) (window-is asked)
 
   room-is : lacksRoom (began .args .w) (began .args .b) (all began) (total (ts began)) (R began) (began .args .count) ≡ false
-  room-is = sym (lacks asked) ∙ c .before .before .if1 .left
+  room-is = sym (asked .is-full .ensures) ∙ c .before .before .if1 .left
 
   enough : c .take-out .result + length news ≤ length (rowsOf (c .take-out .last .0))
   enough =
@@ -128,24 +105,18 @@ window-of-requires c κs =
     let l = c .pre .3 in
     (c .pre .0, omega arith)
 
-count-kept-requires : tie.Need-count-kept-requires
-count-kept-requires c κs = search needs
-
-sub-free : tie.Need-sub-free
-sub-free c = omega (arith, kept-fits c, length-rowsOf (s c .args .events .now))
-
-lacks-room-requires : tie.Need-lacks-room-requires
-lacks-room-requires c κs = let p = s c .pre in (p .0, p .1, p .2, p .3)
+is-full-requires : tie.Need-is-full-requires
+is-full-requires c κs = let p = c .before .before .pre in ((p .0, p .1, p .2, p .3), (c .before .window-of .ensures, p .4))
 
 same-length : tie.Need-same-length
 same-length c = search needs
 
 returns : tie.Need-returns
 unfolding outcomeOf rowsAfter
-returns c = let q = sym (lacks (c .before)) ∙ c .if1 .taken in (sym (rw q), sym (rw q))
+returns c = let q = sym (c .before .is-full .ensures) ∙ c .if1 .taken in (sym (rw q), sym (rw q))
 
 take-out-requires : tie.Need-take-out-requires
-take-out-requires c κs = s (c .before .before .before) .pre .4
+take-out-requires c κs = a (c .before .before) .pre .4
 
 safe-iteration-limit-requires : tie.Need-safe-iteration-limit-requires
 safe-iteration-limit-requires c κs = search needs
@@ -180,7 +151,7 @@ returns-2 c =
     let count : run .write-run .result .count ≡ length (keeps t ++ news t) = count-end (keeps t) (news t) (run .write-run .ensures .1) (left-is t) p in
     let walk = run .write-run .ensures .0 ∙ ap (λ (n : ℕ). walked (ruleOf (A .w)) (from (A .w) (A .b) (all (began t))) (within (began t) n)) g in
     let budget : c .flag-if .result ≡ budgetAfter (ruleOf (A .w)) (A .b) (all (began t)) (total (ts (began t))) =
-    budget-end {k = run .write-run .result .walk} (A .w) (A .b) (all (began t)) (total (ts (began t))) (c .flag-if .ensures) walk g (long-is (asked t .before)) in
+    budget-end {k = run .write-run .result .walk} (A .w) (A .b) (all (began t)) (total (ts (began t))) (c .flag-if .ensures) walk g (long-is (asked t)) in
     rw (room-is t) (ap₂ done count budget, rows)
 
 pub write-core-spec : {M : Type 1} → statement M
@@ -188,9 +159,7 @@ write-core-spec =
     tie.close
     (tie.spec
     window-of-requires
-    count-kept-requires
-    sub-free
-    lacks-room-requires
+    is-full-requires
     same-length
     returns
     take-out-requires
