@@ -49,7 +49,8 @@ fn option_of(track: Track, target: i32) -> WriteOption
     ensures { λ r. ⌜ r ≡ optionOf track target ⌝ }
 {
     let k = key_of(target);
-    track.options[k]
+    let options = track.options;
+    options[k]
 }
 
 // What is set for a target. Refuses 2, 4.
