@@ -24,6 +24,7 @@ mod limits;
 mod make;
 mod poke;
 mod private;
+mod quarter;
 mod rules;
 mod script;
 mod show;
