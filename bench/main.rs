@@ -1,35 +1,25 @@
-// The original and the port on the same lists, in one process. A line for each case: the medians of repeated runs, and ours by theirs. Before a case is timed both sides make the
-// call once, and the times and the kinds that they leave are compared. docs/PERFORMANCE.md says how the lists are made and what the figures were.
-// With `curves SEED COUNT` nothing is timed: the values of so many random curves at random steps are compared.
+// The original and the port on the same lists and tracks, in one process. A line for each case: the medians of repeated runs, and ours by theirs. What both sides leave in the first
+// run is compared. docs/PERFORMANCE.md says how the lists are made and what the figures were. All of it runs in a thread whose stack is the least that a product gives.
+// With `curves SEED COUNT` or `sines SEED COUNT` nothing is timed: values are compared.
 
 #[path = "../target/bench/original.rs"]
 mod original;
+mod port;
+#[path = "../oracle/quarter.rs"]
+mod quarter;
+mod sines;
+mod stack;
 #[path = "../oracle/stand_ins.rs"]
 mod stand_ins;
+mod tracks;
 
 use original::*;
-use std::time::Instant;
-
-#[link(name = "benches", kind = "static")]
-extern "C" {
-    fn bench_take_out(events: *mut i64, numbers: usize, count: usize, kind: i64, number: i64, start: i64, end: i64) -> usize;
-    fn bench_remove_pitch_bend_in_range(
-        events: *mut i64,
-        numbers: usize,
-        count: usize,
-        start: i64,
-        end: i64,
-        store: *const u8,
-        bytes: usize,
-    ) -> usize;
-    fn bench_play_from(events: *mut i64, numbers: usize, count: usize, cut: i64, store: *const u8, bytes: usize) -> usize;
-    fn bench_normalize(events: *mut i64, numbers: usize, count: usize, store: *const u8, bytes: usize) -> usize;
-    fn bench_events_sort(events: *mut i64, numbers: usize, count: usize, store: *const u8, bytes: usize) -> usize;
-    fn bench_curve_value(low: i32, high: i32, j: u64, len: u64) -> i64;
-}
+use port::*;
 
 /// Steps between two events of a list in order.
 const STEP: isize = 10;
+/// A list of more events is a long one.
+const LONG: usize = 10_000;
 const STORE: [u8; 16] = [0xf0; 16];
 
 struct Dice(u64);
@@ -105,16 +95,30 @@ fn numbers(events: &[Event], times: usize) -> Vec<i64> {
     out
 }
 
-fn track(events: &[Event]) -> Track {
-    let mut track = Track::new(96, 0);
+fn track(events: &[Event]) -> original::Track {
+    let mut track = original::Track::new(96, 0);
     track.events = events.to_vec();
     track
 }
 
-fn same(track: &Track, list: &[i64], count: usize) -> bool {
+fn same(track: &original::Track, list: &[i64], count: usize) -> bool {
     let records = list.chunks_exact(8).take(count);
     track.events.len() == count
         && track.events.iter().zip(records).all(|(e, r)| [kind(e), e.time as i64, e.channel as i64, e.v1 as i64, e.v2 as i64, e.v3 as i64] == r[..6])
+}
+
+extern "C" {
+    fn clock_gettime(clock: i32, time: *mut [i64; 2]) -> i32;
+}
+
+const MONOTONIC: i32 = 1;
+const OF_THIS_THREAD: i32 = 3;
+
+/// Microseconds. A long run is given the time that its own thread was run, since other work would come between; that clock is too slow to ask for a short one.
+fn clock(long: bool) -> f64 {
+    let mut time = [0; 2];
+    assert_eq!(unsafe { clock_gettime(if long { OF_THIS_THREAD } else { MONOTONIC }, &mut time) }, 0);
+    time[0] as f64 * 1e6 + time[1] as f64 / 1e3
 }
 
 fn median(mut times: Vec<f64>) -> f64 {
@@ -123,20 +127,21 @@ fn median(mut times: Vec<f64>) -> f64 {
 }
 
 /// One case: a fresh copy of the list for each run, which is not timed; the two sides take turns. The port's list has room for `times` as many events as it holds.
-fn case(name: &str, events: &[Event], times: usize, theirs: impl Fn(&mut Track), ours: impl Fn(&mut [i64], usize) -> usize) {
+fn case(name: &str, events: &[Event], times: usize, theirs: impl Fn(&mut original::Track), ours: impl Fn(&mut [i64], usize) -> usize) {
     let written = numbers(events, times);
-    let runs = if events.len() > 10_000 { 31 } else { 1001 };
+    let long = events.len() > LONG;
+    let runs = if long { 31 } else { 1001 };
     let (mut original, mut port) = (vec![], vec![]);
     for run in 0..runs {
         let mut track = track(events);
-        let begun = Instant::now();
+        let begun = clock(long);
         theirs(&mut track);
-        original.push(begun.elapsed().as_secs_f64() * 1e6);
+        original.push(clock(long) - begun);
 
         let mut list = written.clone();
-        let begun = Instant::now();
+        let begun = clock(long);
         let count = ours(&mut list, events.len());
-        port.push(begun.elapsed().as_secs_f64() * 1e6);
+        port.push(clock(long) - begun);
         assert!(run > 0 || same(&track, &list, count), "{name}: the lists differ");
     }
     let (original, port) = (median(original), median(port));
@@ -162,7 +167,7 @@ fn up_to(dice: &mut Dice, most: isize) -> isize {
 /// Values of the port beside those of the original's own curves, as a note parameter reads them; answers whether all are equal.
 fn curves(seed: u64, count: u64) -> bool {
     let mut dice = Dice(seed.wrapping_mul(0x9e37_79b9_7f4a_7c15) | 1);
-    let mut param = NoteParam::new();
+    let mut param = original::NoteParam::new();
     let (mut equal, mut first) = (0, None);
     for _ in 0..count {
         let (low, high) = (reach(&mut dice, 22), reach(&mut dice, 22));
@@ -186,11 +191,19 @@ fn curves(seed: u64, count: u64) -> bool {
 
 fn main() {
     let words: Vec<String> = std::env::args().skip(1).collect();
-    if let [mode, seed, count] = &words[..] {
-        assert!(mode == "curves", "no such mode: {mode}");
-        std::process::exit(i32::from(!curves(seed.parse().unwrap(), count.parse().unwrap())));
-    }
-    speeds();
+    let words: Vec<&str> = words.iter().map(String::as_str).collect();
+    let well = match words[..] {
+        [] => stack::within(|| {
+            speeds();
+            tracks::speeds();
+            tracks::depths();
+            true
+        }),
+        ["curves", seed, count] => curves(seed.parse().unwrap(), count.parse().unwrap()),
+        ["sines", seed, count] => sines::compare(seed.parse().unwrap(), count.parse().unwrap()),
+        _ => panic!("no such mode: {words:?}"),
+    };
+    std::process::exit(i32::from(!well));
 }
 
 fn speeds() {
