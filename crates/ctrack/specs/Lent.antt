@@ -1,0 +1,61 @@
+-- What a call that is lent its records promises: of what the call by value is defined to answer and to leave, its number and all that
+-- is lent, as it is afterwards. A call's own definition stands with the call by value. Written by tools/ctrack.py.
+use mathlib.Core.Path.{_≡_}
+use mathlib.Core.List.{List}
+use Prim.Native.Nat.{ℕ}
+use lib.IntN.{ℤ}
+use Rattle.state.specs.declared.TrackAnswer.{TrackAnswer}
+use Rattle.state.specs.declared.Track.{Track}
+use Rattle.drawing.specs.declared.OptionAnswer.{OptionAnswer}
+use Rattle.values.specs.declared.WriteOption.{WriteOption}
+use Rattle.writing.specs.declared.Outcome.{Outcome}
+use Rattle.budget.specs.declared.Budget.{Budget}
+use Rattle.reserving.specs.declared.Kept.{Kept}
+use Rattle.cycles.specs.declared.Cycle.{Cycle}
+use Rattle.noting.specs.declared.Noted.{Noted}
+use Rattle.cycling.specs.declared.Cycled.{Cycled}
+use Rattle.cutting.specs.declared.CcValue.{CcValue}
+
+-- a call that is defined to answer a: it answers the number r and leaves the track t
+pub record TrackLeft (a : TrackAnswer) (r : ℕ) (t : Track) : Type 0 where
+  pub code : r ≡ a .code
+  pub track : t ≡ a .track
+
+-- the option of a target: the number r, the option o
+pub record OptionTold (a : OptionAnswer) (r : ℕ) (o : WriteOption) : Type 0 where
+  pub code : r ≡ a .code
+  pub option : o ≡ a .option
+
+-- a write whose outcome is a and which leaves the numbers l in the list: the number r, the budget b, the count n, the numbers m
+pub record Written (a : Outcome) (l : List ℤ) (r : ℕ) (n : ℕ) (b : Budget) (m : List ℤ) : Type 0 where
+  pub code : r ≡ a .code
+  pub count : n ≡ a .count
+  pub budget : b ≡ a .budget
+  pub events : m ≡ l
+
+-- a setter that is defined to leave a: the number r, the track t, the records cs of the lent cycle table
+pub record Reserved (a : Kept) (r : ℕ) (t : Track) (cs : List Cycle) : Type 0 where
+  pub code : r ≡ a .code
+  pub track : t ≡ a .track
+  pub cycles : cs ≡ a .cycles
+
+-- the same of the write for a note, which leaves the track t besides
+pub record NoteWritten (a : Noted) (l : List ℤ) (r : ℕ) (n : ℕ) (b : Budget) (t : Track) (m : List ℤ) : Type 0 where
+  pub code : r ≡ a .code
+  pub count : n ≡ a .count
+  pub budget : b ≡ a .budget
+  pub track : t ≡ a .track
+  pub events : m ≡ l
+
+-- the write of the cycles: besides, the records cs of the lent cycle table
+pub record CycleWritten (a : Cycled) (l : List ℤ) (r : ℕ) (n : ℕ) (b : Budget) (cs : List Cycle) (m : List ℤ) : Type 0 where
+  pub code : r ≡ a .code
+  pub count : n ≡ a .count
+  pub budget : b ≡ a .budget
+  pub cycles : cs ≡ a .cycles
+  pub events : m ≡ l
+
+-- a controller's value
+pub record CcTold (a : CcValue) (r : ℕ) (v : ℤ) : Type 0 where
+  pub code : r ≡ a .code
+  pub value : v ≡ a .value

@@ -1,0 +1,392 @@
+/* The calls of Dollavir from C. Made by tools/header.py from crates/ctrack/src; not edited by hand.
+ *
+ * What a function returns as uint32_t is a number of this table; where it is not 0, all that is lent is as it was:
+ *   0 done
+ *   1 the list is not a whole number of records, its count is above it, or the cycle table has not sixteen
+ *   2 a target or controller argument is none
+ *   3 an argument list has more than 96 numbers
+ *   4 a number is against its range or rule
+ *   5 a layer above 15
+ *   6 no place in a reservation table
+ *   7 the list that is left holds more events than the buffer
+ * A pointer must be valid, aligned and not null, also where its length is 0, and what two parameters point at
+ * must not overlap. A slice is a pointer and the number of its elements. The event list has eight numbers a
+ * record: kind, time, channel, v1, v2, v3, offset, length.
+ */
+#ifndef DOLLAVIR_H
+#define DOLLAVIR_H
+
+#include <stddef.h>
+#include <stdint.h>
+
+#ifdef __cplusplus
+extern "C" {
+#endif
+
+typedef struct {
+    size_t count;
+    int32_t items[96];
+} dollavir_numbers;
+
+/* What is reserved for the notes to come: nothing, a curve over time, a cycle over time, or a list of which each
+   note takes the next value. What a kind has no use for is zero. */
+typedef struct {
+    uint32_t kind;
+    uint32_t cycling;
+    int64_t start;
+    int32_t length;
+    size_t index;
+    dollavir_numbers values;
+} dollavir_reserve;
+
+/* A flag is 0 or 1: where `ranged` is 0 there is no range, where `maxed` is 0 no maximum. */
+typedef struct {
+    dollavir_reserve reserve;
+    int32_t random;
+    uint32_t ranged;
+    int32_t low;
+    int32_t high;
+    int32_t delay;
+    uint32_t maxed;
+    int32_t max;
+    uint32_t repeat;
+} dollavir_note_param;
+
+typedef struct {
+    int32_t value;
+    int32_t random;
+    dollavir_reserve reserve;
+} dollavir_layer;
+
+typedef struct {
+    size_t count;
+    dollavir_layer items[16];
+} dollavir_layers;
+
+/* What is set for a target and outlasts a write. `ranged` and `repeat` are 0 or 1. */
+typedef struct {
+    int32_t delay;
+    int32_t random;
+    uint32_t ranged;
+    int32_t low;
+    int32_t high;
+    uint32_t repeat;
+} dollavir_write_option;
+
+/* The values of a target's notes, one after the other; `index` is the next. `cycling` is 0 or 1. */
+typedef struct {
+    int32_t target;
+    size_t index;
+    uint32_t cycling;
+    dollavir_numbers values;
+} dollavir_on_note_values;
+
+/* A table of lists for notes. */
+typedef struct {
+    size_t count;
+    dollavir_on_note_values items[16];
+} dollavir_note_table;
+
+/* A curve for each note of a target. */
+typedef struct {
+    int32_t target;
+    uint32_t mode;
+    dollavir_numbers values;
+} dollavir_on_note_wave;
+
+/* A table of waves for notes. */
+typedef struct {
+    size_t count;
+    dollavir_on_note_wave items[16];
+} dollavir_wave_table;
+
+/* A sine for each note of a target. `shape` is 0 for a full turn, 1 and 2 for the quarter up and down. */
+typedef struct {
+    int32_t target;
+    uint32_t shape;
+    int32_t low;
+    int32_t high;
+    int32_t length;
+    int32_t times;
+} dollavir_on_note_sine;
+
+/* A table of sines for notes. */
+typedef struct {
+    size_t count;
+    dollavir_on_note_sine items[16];
+} dollavir_sine_table;
+
+/* `ccfreq` and `pbfreq` are the Rust's `cc_on_time_freq` and `pb_on_time_freq`, `step` its `qlen_is_step`, 0 or
+   1; v, q, t, o, l are the note parameters of velocity, gate, timing, octave and length. `cycles` counts the
+   records of the lent cycle table. */
+typedef struct {
+    int32_t timebase;
+    int64_t timepos;
+    int32_t channel;
+    int32_t ccfreq;
+    int32_t pbfreq;
+    int32_t velocity;
+    int32_t timing;
+    int32_t octave;
+    int32_t qlen;
+    uint32_t step;
+    dollavir_note_param v;
+    dollavir_note_param q;
+    dollavir_note_param t;
+    dollavir_note_param o;
+    dollavir_note_param l;
+    dollavir_layers layers;
+    dollavir_write_option options[129];
+    dollavir_note_table notes;
+    dollavir_wave_table waves;
+    dollavir_sine_table sines;
+    size_t cycles;
+} dollavir_track;
+
+/* `used` may exceed `maximum`; `over` is 1 once a write did not fit, else 0. */
+typedef struct {
+    uint32_t seed;
+    uint32_t maximum;
+    uint32_t used;
+    uint32_t over;
+} dollavir_budget;
+
+/* A target's cycle: its values in turn, the one at `index` next, at the time `next` and at every `length` from
+   there. */
+typedef struct {
+    int32_t target;
+    int32_t length;
+    int64_t next;
+    size_t index;
+    dollavir_numbers values;
+} dollavir_cycle;
+
+#if defined(__STDC_VERSION__) && __STDC_VERSION__ >= 201112L
+_Static_assert(sizeof(size_t) == 8, "size_t");
+_Static_assert(sizeof(dollavir_numbers) == 392 && _Alignof(dollavir_numbers) == 8, "dollavir_numbers");
+_Static_assert(offsetof(dollavir_numbers, count) == 0, "dollavir_numbers.count");
+_Static_assert(offsetof(dollavir_numbers, items) == 8, "dollavir_numbers.items");
+_Static_assert(sizeof(dollavir_reserve) == 424 && _Alignof(dollavir_reserve) == 8, "dollavir_reserve");
+_Static_assert(offsetof(dollavir_reserve, kind) == 0, "dollavir_reserve.kind");
+_Static_assert(offsetof(dollavir_reserve, cycling) == 4, "dollavir_reserve.cycling");
+_Static_assert(offsetof(dollavir_reserve, start) == 8, "dollavir_reserve.start");
+_Static_assert(offsetof(dollavir_reserve, length) == 16, "dollavir_reserve.length");
+_Static_assert(offsetof(dollavir_reserve, index) == 24, "dollavir_reserve.index");
+_Static_assert(offsetof(dollavir_reserve, values) == 32, "dollavir_reserve.values");
+_Static_assert(sizeof(dollavir_note_param) == 456 && _Alignof(dollavir_note_param) == 8, "dollavir_note_param");
+_Static_assert(offsetof(dollavir_note_param, reserve) == 0, "dollavir_note_param.reserve");
+_Static_assert(offsetof(dollavir_note_param, random) == 424, "dollavir_note_param.random");
+_Static_assert(offsetof(dollavir_note_param, ranged) == 428, "dollavir_note_param.ranged");
+_Static_assert(offsetof(dollavir_note_param, low) == 432, "dollavir_note_param.low");
+_Static_assert(offsetof(dollavir_note_param, high) == 436, "dollavir_note_param.high");
+_Static_assert(offsetof(dollavir_note_param, delay) == 440, "dollavir_note_param.delay");
+_Static_assert(offsetof(dollavir_note_param, maxed) == 444, "dollavir_note_param.maxed");
+_Static_assert(offsetof(dollavir_note_param, max) == 448, "dollavir_note_param.max");
+_Static_assert(offsetof(dollavir_note_param, repeat) == 452, "dollavir_note_param.repeat");
+_Static_assert(sizeof(dollavir_layer) == 432 && _Alignof(dollavir_layer) == 8, "dollavir_layer");
+_Static_assert(offsetof(dollavir_layer, value) == 0, "dollavir_layer.value");
+_Static_assert(offsetof(dollavir_layer, random) == 4, "dollavir_layer.random");
+_Static_assert(offsetof(dollavir_layer, reserve) == 8, "dollavir_layer.reserve");
+_Static_assert(sizeof(dollavir_layers) == 6920 && _Alignof(dollavir_layers) == 8, "dollavir_layers");
+_Static_assert(offsetof(dollavir_layers, count) == 0, "dollavir_layers.count");
+_Static_assert(offsetof(dollavir_layers, items) == 8, "dollavir_layers.items");
+_Static_assert(sizeof(dollavir_write_option) == 24 && _Alignof(dollavir_write_option) == 4, "dollavir_write_option");
+_Static_assert(offsetof(dollavir_write_option, delay) == 0, "dollavir_write_option.delay");
+_Static_assert(offsetof(dollavir_write_option, random) == 4, "dollavir_write_option.random");
+_Static_assert(offsetof(dollavir_write_option, ranged) == 8, "dollavir_write_option.ranged");
+_Static_assert(offsetof(dollavir_write_option, low) == 12, "dollavir_write_option.low");
+_Static_assert(offsetof(dollavir_write_option, high) == 16, "dollavir_write_option.high");
+_Static_assert(offsetof(dollavir_write_option, repeat) == 20, "dollavir_write_option.repeat");
+_Static_assert(sizeof(dollavir_on_note_values) == 416 && _Alignof(dollavir_on_note_values) == 8, "dollavir_on_note_values");
+_Static_assert(offsetof(dollavir_on_note_values, target) == 0, "dollavir_on_note_values.target");
+_Static_assert(offsetof(dollavir_on_note_values, index) == 8, "dollavir_on_note_values.index");
+_Static_assert(offsetof(dollavir_on_note_values, cycling) == 16, "dollavir_on_note_values.cycling");
+_Static_assert(offsetof(dollavir_on_note_values, values) == 24, "dollavir_on_note_values.values");
+_Static_assert(sizeof(dollavir_note_table) == 6664 && _Alignof(dollavir_note_table) == 8, "dollavir_note_table");
+_Static_assert(offsetof(dollavir_note_table, count) == 0, "dollavir_note_table.count");
+_Static_assert(offsetof(dollavir_note_table, items) == 8, "dollavir_note_table.items");
+_Static_assert(sizeof(dollavir_on_note_wave) == 400 && _Alignof(dollavir_on_note_wave) == 8, "dollavir_on_note_wave");
+_Static_assert(offsetof(dollavir_on_note_wave, target) == 0, "dollavir_on_note_wave.target");
+_Static_assert(offsetof(dollavir_on_note_wave, mode) == 4, "dollavir_on_note_wave.mode");
+_Static_assert(offsetof(dollavir_on_note_wave, values) == 8, "dollavir_on_note_wave.values");
+_Static_assert(sizeof(dollavir_wave_table) == 6408 && _Alignof(dollavir_wave_table) == 8, "dollavir_wave_table");
+_Static_assert(offsetof(dollavir_wave_table, count) == 0, "dollavir_wave_table.count");
+_Static_assert(offsetof(dollavir_wave_table, items) == 8, "dollavir_wave_table.items");
+_Static_assert(sizeof(dollavir_on_note_sine) == 24 && _Alignof(dollavir_on_note_sine) == 4, "dollavir_on_note_sine");
+_Static_assert(offsetof(dollavir_on_note_sine, target) == 0, "dollavir_on_note_sine.target");
+_Static_assert(offsetof(dollavir_on_note_sine, shape) == 4, "dollavir_on_note_sine.shape");
+_Static_assert(offsetof(dollavir_on_note_sine, low) == 8, "dollavir_on_note_sine.low");
+_Static_assert(offsetof(dollavir_on_note_sine, high) == 12, "dollavir_on_note_sine.high");
+_Static_assert(offsetof(dollavir_on_note_sine, length) == 16, "dollavir_on_note_sine.length");
+_Static_assert(offsetof(dollavir_on_note_sine, times) == 20, "dollavir_on_note_sine.times");
+_Static_assert(sizeof(dollavir_sine_table) == 392 && _Alignof(dollavir_sine_table) == 8, "dollavir_sine_table");
+_Static_assert(offsetof(dollavir_sine_table, count) == 0, "dollavir_sine_table.count");
+_Static_assert(offsetof(dollavir_sine_table, items) == 8, "dollavir_sine_table.items");
+_Static_assert(sizeof(dollavir_track) == 25816 && _Alignof(dollavir_track) == 8, "dollavir_track");
+_Static_assert(offsetof(dollavir_track, timebase) == 0, "dollavir_track.timebase");
+_Static_assert(offsetof(dollavir_track, timepos) == 8, "dollavir_track.timepos");
+_Static_assert(offsetof(dollavir_track, channel) == 16, "dollavir_track.channel");
+_Static_assert(offsetof(dollavir_track, ccfreq) == 20, "dollavir_track.ccfreq");
+_Static_assert(offsetof(dollavir_track, pbfreq) == 24, "dollavir_track.pbfreq");
+_Static_assert(offsetof(dollavir_track, velocity) == 28, "dollavir_track.velocity");
+_Static_assert(offsetof(dollavir_track, timing) == 32, "dollavir_track.timing");
+_Static_assert(offsetof(dollavir_track, octave) == 36, "dollavir_track.octave");
+_Static_assert(offsetof(dollavir_track, qlen) == 40, "dollavir_track.qlen");
+_Static_assert(offsetof(dollavir_track, step) == 44, "dollavir_track.step");
+_Static_assert(offsetof(dollavir_track, v) == 48, "dollavir_track.v");
+_Static_assert(offsetof(dollavir_track, q) == 504, "dollavir_track.q");
+_Static_assert(offsetof(dollavir_track, t) == 960, "dollavir_track.t");
+_Static_assert(offsetof(dollavir_track, o) == 1416, "dollavir_track.o");
+_Static_assert(offsetof(dollavir_track, l) == 1872, "dollavir_track.l");
+_Static_assert(offsetof(dollavir_track, layers) == 2328, "dollavir_track.layers");
+_Static_assert(offsetof(dollavir_track, options) == 9248, "dollavir_track.options");
+_Static_assert(offsetof(dollavir_track, notes) == 12344, "dollavir_track.notes");
+_Static_assert(offsetof(dollavir_track, waves) == 19008, "dollavir_track.waves");
+_Static_assert(offsetof(dollavir_track, sines) == 25416, "dollavir_track.sines");
+_Static_assert(offsetof(dollavir_track, cycles) == 25808, "dollavir_track.cycles");
+_Static_assert(sizeof(dollavir_budget) == 16 && _Alignof(dollavir_budget) == 4, "dollavir_budget");
+_Static_assert(offsetof(dollavir_budget, seed) == 0, "dollavir_budget.seed");
+_Static_assert(offsetof(dollavir_budget, maximum) == 4, "dollavir_budget.maximum");
+_Static_assert(offsetof(dollavir_budget, used) == 8, "dollavir_budget.used");
+_Static_assert(offsetof(dollavir_budget, over) == 12, "dollavir_budget.over");
+_Static_assert(sizeof(dollavir_cycle) == 416 && _Alignof(dollavir_cycle) == 8, "dollavir_cycle");
+_Static_assert(offsetof(dollavir_cycle, target) == 0, "dollavir_cycle.target");
+_Static_assert(offsetof(dollavir_cycle, length) == 4, "dollavir_cycle.length");
+_Static_assert(offsetof(dollavir_cycle, next) == 8, "dollavir_cycle.next");
+_Static_assert(offsetof(dollavir_cycle, index) == 16, "dollavir_cycle.index");
+_Static_assert(offsetof(dollavir_cycle, values) == 24, "dollavir_cycle.values");
+#endif
+
+/* Where the track stands: the time of what is written next. Refuses 4. */
+uint32_t dollavir_set_timepos(dollavir_track *track, int64_t timepos);
+
+/* The channel of what is written next; outside 0..15 it is not clamped here. Refuses 4. */
+uint32_t dollavir_set_channel(dollavir_track *track, int32_t channel);
+
+/* How many steps apart a controller's curve is written. Refuses 4. */
+uint32_t dollavir_set_cc_on_time_freq(dollavir_track *track, int32_t freq);
+
+/* The same of a bend's curve. Refuses 4. */
+uint32_t dollavir_set_pb_on_time_freq(dollavir_track *track, int32_t freq);
+
+/* What is set for a target. Leaves it in `option`. Refuses 2, 4. */
+uint32_t dollavir_get_write_opt(const dollavir_track *track, int32_t target, dollavir_write_option *option);
+
+/* How many steps later a target's events stand. Refuses 2, 4. */
+uint32_t dollavir_set_delay(dollavir_track *track, int32_t target, int32_t delay);
+
+/* How far random moves a target's values; 0 or less is off. Refuses 2, 4. */
+uint32_t dollavir_set_random(dollavir_track *track, int32_t target, int32_t random);
+
+/* The range to which a target's values are limited. Refuses 2, 4. */
+uint32_t dollavir_set_range(dollavir_track *track, int32_t target, int32_t low, int32_t high);
+
+/* A target's values are limited no more. Refuses 2, 4. */
+uint32_t dollavir_clear_range(dollavir_track *track, int32_t target);
+
+/* Whether a target's lists for notes go round, 0 or 1; it reaches the list that is stored too. Refuses 2, 4. */
+uint32_t dollavir_set_repeat(dollavir_track *track, int32_t target, uint32_t on);
+
+/* Writes a curve at the track's time: `list` is triples of a low, a high and a length. Answers the new count and
+   the budget; the target's events within the curve's length are taken out, the new ones stand behind the others.
+   Refuses 1, 2, 3, 4, 7. */
+uint32_t dollavir_write_on_time(const dollavir_track *track, int32_t target, const int32_t *list, size_t
+    list_length, dollavir_budget *budget, int64_t *events, size_t events_length, size_t *count, const uint8_t
+    *store, size_t store_length);
+
+/* `write_on_time` of a controller by its number. Refuses 1, 2, 3, 4, 7. */
+uint32_t dollavir_write_cc_on_time(const dollavir_track *track, int32_t number, const int32_t *list, size_t
+    list_length, dollavir_budget *budget, int64_t *events, size_t events_length, size_t *count, const uint8_t
+    *store, size_t store_length);
+
+/* `write_on_time` of the bend. Refuses 1, 3, 4, 7. */
+uint32_t dollavir_write_pb_on_time(const dollavir_track *track, int32_t big, const int32_t *list, size_t
+    list_length, dollavir_budget *budget, int64_t *events, size_t events_length, size_t *count, const uint8_t
+    *store, size_t store_length);
+
+/* Writes a sine at the track's time, `times` turns of `len` steps from `low` to `high`; `shape` is 0 for a full
+   turn, 1 and 2 for the quarter up and down. Answers and leaves as `write_on_time`; a length of 0 or less changes
+   nothing, times of 0 or less count once. Refuses 1, 2, 4, 7. */
+uint32_t dollavir_write_sine(const dollavir_track *track, int32_t target, uint32_t shape, int32_t low, int32_t
+    high, int32_t len, int32_t times, dollavir_budget *budget, int64_t *events, size_t events_length, size_t
+    *count, const uint8_t *store, size_t store_length);
+
+/* Takes out the reservations of a target, of all four kinds. Answers the track. Refuses 1, 2, 4. */
+uint32_t dollavir_remove_reserve(dollavir_track *track, dollavir_cycle *cycles, size_t cycles_length, int32_t
+    target);
+
+/* Reserves a list of numbers for a target, one for each note, in place of what is reserved for it. Answers the
+   track. Refuses 1, 2, 3, 4, 6. */
+uint32_t dollavir_set_on_note(dollavir_track *track, dollavir_cycle *cycles, size_t cycles_length, int32_t
+    target, const int32_t *list, size_t list_length);
+
+/* Reserves a wave for a target: `list` is triples of a low, a high and a length. Answers the track. Refuses 1, 2,
+   3, 4, 6. */
+uint32_t dollavir_set_on_note_wave(dollavir_track *track, dollavir_cycle *cycles, size_t cycles_length,
+    int32_t target, uint32_t mode, const int32_t *list, size_t list_length);
+
+/* Reserves a sine for a target, which it must name. Answers the track. Refuses 1, 2, 4, 6. */
+uint32_t dollavir_set_on_note_sine(dollavir_track *track, dollavir_cycle *cycles, size_t cycles_length,
+    int32_t target, dollavir_on_note_sine sine);
+
+/* Reserves a cycle of `list` for a target, one number every `len` steps from the track's time on; it comes last
+   in the table. A length of 0 or less, or no number, only takes the target's reservations out. Answers the track.
+   Refuses 1, 2, 3, 4, 6. */
+uint32_t dollavir_set_on_cycle(dollavir_track *track, dollavir_cycle *cycles, size_t cycles_length, int32_t
+    target, int32_t len, const int32_t *list, size_t list_length);
+
+/* The older calls. `remove_reserve` of a controller. Refuses 1, 2, 4. */
+uint32_t dollavir_remove_cc_on(dollavir_track *track, dollavir_cycle *cycles, size_t cycles_length, int32_t
+    number);
+
+/* `set_on_note` of a controller. Refuses 1, 2, 3, 4, 6. */
+uint32_t dollavir_set_cc_on_note(dollavir_track *track, dollavir_cycle *cycles, size_t cycles_length, int32_t
+    number, const int32_t *list, size_t list_length);
+
+/* `set_on_note_wave` of a controller, the wave used as it is. Refuses 1, 2, 3, 4, 6. */
+uint32_t dollavir_set_cc_on_note_wave(dollavir_track *track, dollavir_cycle *cycles, size_t cycles_length,
+    int32_t number, const int32_t *list, size_t list_length);
+
+/* `set_on_note_wave` of a bend by its argument, the wave used as it is. Refuses 1, 3, 4, 6. */
+uint32_t dollavir_set_pb_on_note_wave(dollavir_track *track, dollavir_cycle *cycles, size_t cycles_length,
+    int32_t big, const int32_t *list, size_t list_length);
+
+/* `remove_reserve` of both bends. Refuses 1, 4. */
+uint32_t dollavir_remove_pb_on_note_wave(dollavir_track *track, dollavir_cycle *cycles, size_t cycles_length);
+
+/* No list for notes stays reserved for a controller; what is of another kind stays. Refuses 2, 4. */
+uint32_t dollavir_remove_cc_on_note(dollavir_track *track, int32_t number);
+
+/* No wave and no sine stays reserved for a controller; what is of another kind stays. Refuses 2, 4. */
+uint32_t dollavir_remove_cc_on_note_wave(dollavir_track *track, int32_t number);
+
+/* Writes what a track's lists have for a note that starts at `start`: the events stand behind the list's own, and
+   each list that wrote is one further. Answers the count, the budget and the track afterwards. A write that does
+   not fit sets the flag and ends the call; else lists that are used up and do not go round are taken out. Refuses
+   1, 4, 7; then all is left as it is. */
+uint32_t dollavir_write_cc_on_note(dollavir_track *track, int64_t start, dollavir_budget *budget, int64_t
+    *events, size_t events_length, size_t *count);
+
+/* Writes the waves and then the sines that are reserved for the track's notes, over a note from `start` to the
+   track's time; they stop once the flag is set. Answers the count of events and the budget after them, and leaves
+   the events in the list; the track stays as it is. Refuses 1, 4, 7; then list, count and budget are those that
+   were handed in. */
+uint32_t dollavir_write_cc_on_note_wave(const dollavir_track *track, int64_t start, dollavir_budget *budget,
+    int64_t *events, size_t events_length, size_t *count, const uint8_t *store, size_t store_length);
+
+/* Makes the writes of the track's cycles that are due up to `until`, as `cycling::write_cc_on_cycle` does, over a
+   cycle table and a budget that are lent: the records are advanced in place. Answers the new count. Refuses 1, 4,
+   7; then all that was lent is left. */
+uint32_t dollavir_write_cc_on_cycle(const dollavir_track *track, dollavir_cycle *cycles, size_t cycles_length,
+    int64_t until, dollavir_budget *budget, int64_t *events, size_t events_length, size_t *count);
+
+/* The value of controller `number` on the track's channel at its time: that of the last such event in list order
+   at or before it, or the controller's default. Leaves it in `value`. Refuses 1, 2, 4. */
+uint32_t dollavir_current_cc_value(const dollavir_track *track, int32_t number, const int64_t *events, size_t
+    events_length, size_t count, const uint8_t *store, size_t store_length, int64_t *value);
+
+#ifdef __cplusplus
+}
+#endif
+
+#endif
