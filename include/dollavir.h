@@ -143,6 +143,12 @@ typedef struct {
     size_t cycles;
 } dollavir_track;
 
+/* The track as a call leaves it. */
+typedef struct {
+    uint32_t code;
+    dollavir_track track;
+} dollavir_track_answer;
+
 /* `used` may exceed `maximum`; `over` is 1 once a write did not fit, else 0. */
 typedef struct {
     uint32_t seed;
@@ -160,6 +166,23 @@ typedef struct {
     size_t index;
     dollavir_numbers values;
 } dollavir_cycle;
+
+typedef struct {
+    int64_t kind;
+    int64_t time;
+    int64_t channel;
+    int64_t v1;
+    int64_t v2;
+    int64_t v3;
+    int64_t offset;
+    int64_t len;
+} dollavir_event;
+
+/* What a constructor answers: 0 and the event, or the refusal's number and the event of zeros. */
+typedef struct {
+    uint32_t code;
+    dollavir_event event;
+} dollavir_made;
 
 #if defined(__STDC_VERSION__) && __STDC_VERSION__ >= 201112L
 _Static_assert(sizeof(size_t) == 8, "size_t");
@@ -244,6 +267,9 @@ _Static_assert(offsetof(dollavir_track, notes) == 12344, "dollavir_track.notes")
 _Static_assert(offsetof(dollavir_track, waves) == 19008, "dollavir_track.waves");
 _Static_assert(offsetof(dollavir_track, sines) == 25416, "dollavir_track.sines");
 _Static_assert(offsetof(dollavir_track, cycles) == 25808, "dollavir_track.cycles");
+_Static_assert(sizeof(dollavir_track_answer) == 25824 && _Alignof(dollavir_track_answer) == 8, "dollavir_track_answer");
+_Static_assert(offsetof(dollavir_track_answer, code) == 0, "dollavir_track_answer.code");
+_Static_assert(offsetof(dollavir_track_answer, track) == 8, "dollavir_track_answer.track");
 _Static_assert(sizeof(dollavir_budget) == 16 && _Alignof(dollavir_budget) == 4, "dollavir_budget");
 _Static_assert(offsetof(dollavir_budget, seed) == 0, "dollavir_budget.seed");
 _Static_assert(offsetof(dollavir_budget, maximum) == 4, "dollavir_budget.maximum");
@@ -255,7 +281,29 @@ _Static_assert(offsetof(dollavir_cycle, length) == 4, "dollavir_cycle.length");
 _Static_assert(offsetof(dollavir_cycle, next) == 8, "dollavir_cycle.next");
 _Static_assert(offsetof(dollavir_cycle, index) == 16, "dollavir_cycle.index");
 _Static_assert(offsetof(dollavir_cycle, values) == 24, "dollavir_cycle.values");
+_Static_assert(sizeof(dollavir_event) == 64 && _Alignof(dollavir_event) == 8, "dollavir_event");
+_Static_assert(offsetof(dollavir_event, kind) == 0, "dollavir_event.kind");
+_Static_assert(offsetof(dollavir_event, time) == 8, "dollavir_event.time");
+_Static_assert(offsetof(dollavir_event, channel) == 16, "dollavir_event.channel");
+_Static_assert(offsetof(dollavir_event, v1) == 24, "dollavir_event.v1");
+_Static_assert(offsetof(dollavir_event, v2) == 32, "dollavir_event.v2");
+_Static_assert(offsetof(dollavir_event, v3) == 40, "dollavir_event.v3");
+_Static_assert(offsetof(dollavir_event, offset) == 48, "dollavir_event.offset");
+_Static_assert(offsetof(dollavir_event, len) == 56, "dollavir_event.len");
+_Static_assert(sizeof(dollavir_made) == 72 && _Alignof(dollavir_made) == 8, "dollavir_made");
+_Static_assert(offsetof(dollavir_made, code) == 0, "dollavir_made.code");
+_Static_assert(offsetof(dollavir_made, event) == 8, "dollavir_made.event");
 #endif
+
+/* A track at time 0 with nothing set; the channel is clamped to 0..15. Refuses 4, and then hands back a track of
+   timebase 0, which no call takes. */
+dollavir_track_answer dollavir_track_new(int32_t timebase, int32_t channel);
+
+/* Nothing used yet, the flag clear. */
+dollavir_budget dollavir_budget_new(uint32_t seed, uint32_t maximum);
+
+/* What an unused place of a table of cycles holds. */
+dollavir_cycle dollavir_cycle_none(void);
 
 /* Where the track stands: the time of what is written next. Refuses 4. */
 uint32_t dollavir_set_timepos(dollavir_track *track, int64_t timepos);
@@ -384,6 +432,247 @@ uint32_t dollavir_write_cc_on_cycle(const dollavir_track *track, dollavir_cycle 
    at or before it, or the controller's default. Leaves it in `value`. Refuses 1, 2, 4. */
 uint32_t dollavir_current_cc_value(const dollavir_track *track, int32_t number, const int64_t *events, size_t
     events_length, size_t count, const uint8_t *store, size_t store_length, int64_t *value);
+
+/* Takes out the bends from `start` to `end`, that time included. Answers the new count; the others keep their
+   order, and the places that fall vacant are zeroed. Refuses 1, 4; then the list is left as it is. */
+uint32_t dollavir_remove_pitch_bend_in_range(int64_t *events, size_t events_length, size_t *count, int64_t
+    start, int64_t end, const uint8_t *store, size_t store_length);
+
+/* Sorts the list by time; events of one time keep their order. Answers 0, or refuses 1, 4; then the list is left
+   as it is. */
+uint32_t dollavir_events_sort(int64_t *events, size_t events_length, size_t count, const uint8_t *store,
+    size_t store_length);
+
+/* Puts the list's events at the front of `out`, after each note its end, and answers how many they are. Beyond
+   them `out` is left as it is. Refuses 1, 4, 7; then all of `out` is left as it is. */
+uint32_t dollavir_split_note_off(const int64_t *events, size_t events_length, size_t count, int64_t *out,
+    size_t out_length, const uint8_t *store, size_t store_length, size_t *out_count);
+
+/* Puts after each note of the list its end, and answers the new count. Refuses 1, 4, 7; then the list is left as
+   it is. */
+uint32_t dollavir_normalize(int64_t *events, size_t events_length, size_t *count, const uint8_t *store, size_t
+    store_length);
+
+/* Cuts off what is before `cut`: the events that are kept count their time from it, and after them stand, at time
+   0, the controllers and the program as they were. Answers the new count; the places that fall vacant are zeroed.
+   Refuses 1, 4; then the list is left as it is. */
+uint32_t dollavir_play_from(int64_t *events, size_t events_length, size_t *count, int64_t cut, const uint8_t
+    *store, size_t store_length);
+
+/* The same with the bends: those from `cut` on are kept, and the last before it is folded. What is folded stands
+   first. */
+uint32_t dollavir_full_cut(int64_t *events, size_t events_length, size_t *count, int64_t cut, const uint8_t
+    *store, size_t store_length);
+
+/* A note's velocity at the track's time, of the curve or cycle that is reserved, or the default; a curve that is
+   over goes. Leaves it in `value`. Refuses 4. */
+uint32_t dollavir_calc_v_on_time(dollavir_track *track, int32_t def, int32_t *value);
+
+/* The same of a note's timing. Leaves it in `value`. Refuses 4. */
+uint32_t dollavir_calc_t_on_time(dollavir_track *track, int32_t def, int32_t *value);
+
+/* The same of a note's gate. Leaves it in `value`. Refuses 4. */
+uint32_t dollavir_calc_qlen_on_time(dollavir_track *track, int32_t def, int32_t *value);
+
+/* The same of a note's octave. Leaves it in `value`. Refuses 4. */
+uint32_t dollavir_calc_o_on_time(dollavir_track *track, int32_t def, int32_t *value);
+
+/* The same of a note's length. Leaves it in `value`. Refuses 4. */
+uint32_t dollavir_calc_l_on_time(dollavir_track *track, int32_t def, int32_t *value);
+
+/* A note's velocity, the next of the list that is reserved, or the default; a list that is spent goes. While the
+   list is there, the value is the track's velocity too. Leaves it in `value`. Refuses 4. */
+uint32_t dollavir_calc_v_on_note(dollavir_track *track, int32_t def, int32_t *value);
+
+/* The same of a note's timing. Leaves it in `value`. Refuses 4. */
+uint32_t dollavir_calc_t_on_note(dollavir_track *track, int32_t def, int32_t *value);
+
+/* The same of a note's gate, which is no longer one in steps then. Leaves it in `value`. Refuses 4. */
+uint32_t dollavir_calc_qlen_on_note(dollavir_track *track, int32_t def, int32_t *value);
+
+/* The same of a note's octave. Leaves it in `value`. Refuses 4. */
+uint32_t dollavir_calc_o_on_note(dollavir_track *track, int32_t def, int32_t *value);
+
+/* The same of a note's length, which the track does not keep. Leaves it in `value`. Refuses 4. */
+uint32_t dollavir_calc_l_on_note(dollavir_track *track, int32_t def, int32_t *value);
+
+/* A layer's value; nothing stays reserved for it. Refuses 4, 5. */
+uint32_t dollavir_set_v_sub(dollavir_track *track, size_t index, int32_t velocity);
+
+/* A layer's random width. Refuses 4, 5. */
+uint32_t dollavir_set_v_sub_random(dollavir_track *track, size_t index, int32_t random);
+
+/* Reserves a curve for a layer, from the track's time and the velocity parameter's delay on. Refuses 3, 4, 5. */
+uint32_t dollavir_set_v_sub_on_time(dollavir_track *track, size_t index, const int32_t *values, size_t
+    values_length);
+
+/* Reserves a cycle for a layer, its length and then its values; nothing, where there is no value. Refuses 3, 4,
+   5. */
+uint32_t dollavir_set_v_sub_on_cycle(dollavir_track *track, size_t index, const int32_t *args, size_t
+    args_length);
+
+/* Reserves a value of a layer for each of the next notes, round and round where the velocity parameter's repeat
+   stands. Refuses 3, 4, 5. */
+uint32_t dollavir_set_v_sub_on_note(dollavir_track *track, size_t index, const int32_t *values, size_t
+    values_length);
+
+/* A note's velocity at the track's time: the given one and what every layer adds to it. The layers come back
+   advanced. Leaves it in `value`. Refuses 4. */
+uint32_t dollavir_apply_v_sub(dollavir_track *track, int32_t velocity, int64_t *value);
+
+/* The setters of a parameter, `which` by its number; any other number refuses 4. Reserves a curve, low, high and
+   length by threes, from the track's time and the parameter's delay on. Refuses 3, 4. */
+uint32_t dollavir_set_param_on_time(dollavir_track *track, uint32_t which, const int32_t *values, size_t
+    values_length);
+
+/* Reserves a cycle, its length and then its values, from there on; nothing, where there is no value. Refuses 3,
+   4. */
+uint32_t dollavir_set_param_on_cycle(dollavir_track *track, uint32_t which, const int32_t *args, size_t
+    args_length);
+
+/* Reserves a value for each of the next notes, round and round where repeat stands. Refuses 3, 4. */
+uint32_t dollavir_set_param_on_note(dollavir_track *track, uint32_t which, const int32_t *values, size_t
+    values_length);
+
+/* Nothing stays reserved. Refuses 4. */
+uint32_t dollavir_clear_param_reserve(dollavir_track *track, uint32_t which);
+
+/* The random width of a value. Refuses 4. */
+uint32_t dollavir_set_param_random(dollavir_track *track, uint32_t which, int32_t random);
+
+/* The range of a value. Refuses 4. */
+uint32_t dollavir_set_param_range(dollavir_track *track, uint32_t which, int32_t low, int32_t high);
+
+/* No range. Refuses 4. */
+uint32_t dollavir_clear_param_range(dollavir_track *track, uint32_t which);
+
+/* The delay of what is reserved from now on. Refuses 4. */
+uint32_t dollavir_set_param_delay(dollavir_track *track, uint32_t which, int32_t delay);
+
+/* The maximum of a value. Refuses 4. */
+uint32_t dollavir_set_param_max(dollavir_track *track, uint32_t which, int32_t max);
+
+/* No maximum. Refuses 4. */
+uint32_t dollavir_clear_param_max(dollavir_track *track, uint32_t which);
+
+/* Whether a list that is reserved from now on goes round: 0 or 1. Refuses 4. */
+uint32_t dollavir_set_param_repeat(dollavir_track *track, uint32_t which, uint32_t repeat);
+
+/* A note of a length and a velocity. Refuses 4. */
+dollavir_made dollavir_event_note(int64_t time, int64_t channel, int64_t number, int64_t len, int64_t vel);
+
+/* A program. Refuses 4. */
+dollavir_made dollavir_event_voice(int64_t time, int64_t channel, int64_t value);
+
+/* A controller's value. Refuses 2 a number that is no controller's, then 4. */
+dollavir_made dollavir_event_cc(int64_t time, int64_t channel, int64_t number, int64_t value);
+
+/* A bend. Refuses 4. */
+dollavir_made dollavir_event_pitch_bend(int64_t time, int64_t channel, int64_t value);
+
+/* A bend's range. Refuses 4. */
+dollavir_made dollavir_event_pitch_bend_range(int64_t time, int64_t channel, int64_t value);
+
+/* A meta event, its data the `len` bytes of `store` from `offset` on. Refuses 4. */
+dollavir_made dollavir_event_meta(int64_t time, int64_t v1, int64_t v2, int64_t v3, int64_t offset, int64_t
+    len, const uint8_t *store, size_t store_length);
+
+/* Bytes of `store` that are written as they stand. Refuses 4. */
+dollavir_made dollavir_event_direct_smf(int64_t time, int64_t offset, int64_t len, const uint8_t *store,
+    size_t store_length);
+
+/* A system exclusive message of bytes of `store`. Refuses 4. */
+dollavir_made dollavir_event_sysex_raw(int64_t time, int64_t offset, int64_t len, const uint8_t *store, size_t
+    store_length);
+
+/* The bytes that an event counts in the budget. Refuses 4 an event that may not be stored beside `store`. */
+uint32_t dollavir_event_bytes(const dollavir_event *event, const uint8_t *store, size_t store_length, size_t
+    *bytes);
+
+/* Nothing reserved, no option set. */
+dollavir_note_param dollavir_param_new(void);
+
+/* Nothing stays reserved. Refuses 4. */
+uint32_t dollavir_param_clear_reserve(dollavir_note_param *param);
+
+/* 1 where something is reserved, else 0. Leaves it in `value`. Refuses 4. */
+uint32_t dollavir_param_has_reserve(const dollavir_note_param *param, int32_t *value);
+
+/* Reserves a curve, low, high and length by threes, from `timepos` and the delay on. Refuses 3, 4. */
+uint32_t dollavir_param_set_on_time(dollavir_note_param *param, int64_t timepos, const int32_t *values, size_t
+    values_length);
+
+/* Reserves a cycle, its length and then its values, from `timepos` and the delay on; nothing, where there is no
+   value. Refuses 3, 4. */
+uint32_t dollavir_param_set_on_cycle(dollavir_note_param *param, int64_t timepos, const int32_t *args, size_t
+    args_length);
+
+/* Reserves a value for each of the next notes, round and round where repeat stands. Refuses 3, 4. */
+uint32_t dollavir_param_set_on_note(dollavir_note_param *param, const int32_t *values, size_t values_length);
+
+/* The value of the reserved curve or cycle at `timepos`, or the default; a curve that is over goes. Leaves it in
+   `value`. Refuses 4. */
+uint32_t dollavir_param_calc_on_time(dollavir_note_param *param, int64_t timepos, int32_t def, int32_t
+    *value);
+
+/* The next value of the reserved list, or the default; a list that is spent goes. Leaves it in `value`. Refuses
+   4. */
+uint32_t dollavir_param_calc_on_note(dollavir_note_param *param, int32_t def, int32_t *value);
+
+/* A value limited by the range and then by the maximum, where there is one. Leaves it in `limited`. Refuses 4. */
+uint32_t dollavir_param_apply_limit(const dollavir_note_param *param, int32_t value, int32_t *limited);
+
+/* The maximum, or the default where there is none. Leaves it in `value`. Refuses 4. */
+uint32_t dollavir_param_max_or(const dollavir_note_param *param, int32_t def, int32_t *value);
+
+/* The random width of a value. Refuses 4. */
+uint32_t dollavir_param_set_random(dollavir_note_param *param, int32_t random);
+
+/* The range of a value. Refuses 4. */
+uint32_t dollavir_param_set_range(dollavir_note_param *param, int32_t low, int32_t high);
+
+/* No range. Refuses 4. */
+uint32_t dollavir_param_clear_range(dollavir_note_param *param);
+
+/* The delay of what is reserved from now on. Refuses 4. */
+uint32_t dollavir_param_set_delay(dollavir_note_param *param, int32_t delay);
+
+/* The maximum of a value. Refuses 4. */
+uint32_t dollavir_param_set_max(dollavir_note_param *param, int32_t max);
+
+/* No maximum. Refuses 4. */
+uint32_t dollavir_param_clear_max(dollavir_note_param *param);
+
+/* Whether a list that is reserved from now on goes round: 0 or 1. Refuses 4. */
+uint32_t dollavir_param_set_repeat(dollavir_note_param *param, uint32_t repeat);
+
+/* One layer, with nothing set. */
+dollavir_layers dollavir_layers_new(void);
+
+/* A layer's value; nothing stays reserved for it. Refuses 4, 5. */
+uint32_t dollavir_layers_set_v_sub(dollavir_layers *layers, size_t index, int32_t velocity);
+
+/* A layer's random width. Refuses 4, 5. */
+uint32_t dollavir_layers_set_v_sub_random(dollavir_layers *layers, size_t index, int32_t random);
+
+/* Reserves a curve for a layer, from `timepos` and the velocity parameter's delay on. Refuses 3, 4, 5. */
+uint32_t dollavir_layers_set_v_sub_on_time(dollavir_layers *layers, size_t index, int64_t timepos, int32_t
+    delay, const int32_t *values, size_t values_length);
+
+/* Reserves a cycle for a layer, its length and then its values, from `timepos` and the velocity parameter's delay
+   on; nothing, where there is no value. Refuses 3, 4, 5. */
+uint32_t dollavir_layers_set_v_sub_on_cycle(dollavir_layers *layers, size_t index, int64_t timepos, int32_t
+    delay, const int32_t *args, size_t args_length);
+
+/* Reserves a value of a layer for each of the next notes, round and round where the velocity parameter's repeat
+   stands. Refuses 3, 4, 5. */
+uint32_t dollavir_layers_set_v_sub_on_note(dollavir_layers *layers, size_t index, uint32_t repeat, const
+    int32_t *values, size_t values_length);
+
+/* A note's velocity at `timepos`: the given one and what every layer adds to it. The layers come back advanced.
+   Leaves it in `value`. Refuses 4. */
+uint32_t dollavir_layers_apply_v_sub(dollavir_layers *layers, int64_t timepos, int32_t velocity, int64_t
+    *value);
 
 #ifdef __cplusplus
 }

@@ -158,6 +158,14 @@ pub struct Track {
     pub cycles: usize,
 }
 
+// The track as a call leaves it.
+#[repr(C)]
+#[derive(Clone, Copy, Debug, PartialEq, Eq)]
+pub struct TrackAnswer {
+    pub code: u32,
+    pub track: Track,
+}
+
 // `used` may exceed `maximum`; `over` is 1 once a write did not fit, else 0.
 #[repr(C)]
 #[derive(Clone, Copy, Debug, PartialEq, Eq)]
@@ -178,6 +186,27 @@ pub struct Cycle {
     pub next: i64,
     pub index: usize,
     pub values: Numbers,
+}
+
+#[repr(C)]
+#[derive(Clone, Copy, Debug, PartialEq, Eq)]
+pub struct Event {
+    pub kind: i64,
+    pub time: i64,
+    pub channel: i64,
+    pub v1: i64,
+    pub v2: i64,
+    pub v3: i64,
+    pub offset: i64,
+    pub len: i64,
+}
+
+// What a constructor answers: 0 and the event, or the refusal's number and the event of zeros.
+#[repr(C)]
+#[derive(Clone, Copy, Debug, PartialEq, Eq)]
+pub struct Made {
+    pub code: u32,
+    pub event: Event,
 }
 
 const _: () = assert!(core::mem::size_of::<usize>() == 8);
@@ -262,6 +291,9 @@ const _: () = assert!(core::mem::offset_of!(Track, notes) == 12344);
 const _: () = assert!(core::mem::offset_of!(Track, waves) == 19008);
 const _: () = assert!(core::mem::offset_of!(Track, sines) == 25416);
 const _: () = assert!(core::mem::offset_of!(Track, cycles) == 25808);
+const _: () = assert!(core::mem::size_of::<TrackAnswer>() == 25824 && core::mem::align_of::<TrackAnswer>() == 8);
+const _: () = assert!(core::mem::offset_of!(TrackAnswer, code) == 0);
+const _: () = assert!(core::mem::offset_of!(TrackAnswer, track) == 8);
 const _: () = assert!(core::mem::size_of::<Budget>() == 16 && core::mem::align_of::<Budget>() == 4);
 const _: () = assert!(core::mem::offset_of!(Budget, seed) == 0);
 const _: () = assert!(core::mem::offset_of!(Budget, maximum) == 4);
@@ -273,8 +305,30 @@ const _: () = assert!(core::mem::offset_of!(Cycle, length) == 4);
 const _: () = assert!(core::mem::offset_of!(Cycle, next) == 8);
 const _: () = assert!(core::mem::offset_of!(Cycle, index) == 16);
 const _: () = assert!(core::mem::offset_of!(Cycle, values) == 24);
+const _: () = assert!(core::mem::size_of::<Event>() == 64 && core::mem::align_of::<Event>() == 8);
+const _: () = assert!(core::mem::offset_of!(Event, kind) == 0);
+const _: () = assert!(core::mem::offset_of!(Event, time) == 8);
+const _: () = assert!(core::mem::offset_of!(Event, channel) == 16);
+const _: () = assert!(core::mem::offset_of!(Event, v1) == 24);
+const _: () = assert!(core::mem::offset_of!(Event, v2) == 32);
+const _: () = assert!(core::mem::offset_of!(Event, v3) == 40);
+const _: () = assert!(core::mem::offset_of!(Event, offset) == 48);
+const _: () = assert!(core::mem::offset_of!(Event, len) == 56);
+const _: () = assert!(core::mem::size_of::<Made>() == 72 && core::mem::align_of::<Made>() == 8);
+const _: () = assert!(core::mem::offset_of!(Made, code) == 0);
+const _: () = assert!(core::mem::offset_of!(Made, event) == 8);
 
 extern "C" {
+    // A track at time 0 with nothing set; the channel is clamped to 0..15. Refuses 4, and then hands back a track
+    // of timebase 0, which no call takes.
+    pub fn dollavir_track_new(timebase: i32, channel: i32) -> TrackAnswer;
+
+    // Nothing used yet, the flag clear.
+    pub fn dollavir_budget_new(seed: u32, maximum: u32) -> Budget;
+
+    // What an unused place of a table of cycles holds.
+    pub fn dollavir_cycle_none() -> Cycle;
+
     // Where the track stands: the time of what is written next. Refuses 4.
     pub fn dollavir_set_timepos(track: *mut Track, timepos: i64) -> u32;
 
@@ -381,4 +435,223 @@ extern "C" {
     // The value of controller `number` on the track's channel at its time: that of the last such event in list
     // order at or before it, or the controller's default. Leaves it in `value`. Refuses 1, 2, 4.
     pub fn dollavir_current_cc_value(track: *const Track, number: i32, events: *const i64, events_length: usize, count: usize, store: *const u8, store_length: usize, value: *mut i64) -> u32;
+
+    // Takes out the bends from `start` to `end`, that time included. Answers the new count; the others keep their
+    // order, and the places that fall vacant are zeroed. Refuses 1, 4; then the list is left as it is.
+    pub fn dollavir_remove_pitch_bend_in_range(events: *mut i64, events_length: usize, count: *mut usize, start: i64, end: i64, store: *const u8, store_length: usize) -> u32;
+
+    // Sorts the list by time; events of one time keep their order. Answers 0, or refuses 1, 4; then the list is
+    // left as it is.
+    pub fn dollavir_events_sort(events: *mut i64, events_length: usize, count: usize, store: *const u8, store_length: usize) -> u32;
+
+    // Puts the list's events at the front of `out`, after each note its end, and answers how many they are.
+    // Beyond them `out` is left as it is. Refuses 1, 4, 7; then all of `out` is left as it is.
+    pub fn dollavir_split_note_off(events: *const i64, events_length: usize, count: usize, out: *mut i64, out_length: usize, store: *const u8, store_length: usize, out_count: *mut usize) -> u32;
+
+    // Puts after each note of the list its end, and answers the new count. Refuses 1, 4, 7; then the list is left
+    // as it is.
+    pub fn dollavir_normalize(events: *mut i64, events_length: usize, count: *mut usize, store: *const u8, store_length: usize) -> u32;
+
+    // Cuts off what is before `cut`: the events that are kept count their time from it, and after them stand, at
+    // time 0, the controllers and the program as they were. Answers the new count; the places that fall vacant
+    // are zeroed. Refuses 1, 4; then the list is left as it is.
+    pub fn dollavir_play_from(events: *mut i64, events_length: usize, count: *mut usize, cut: i64, store: *const u8, store_length: usize) -> u32;
+
+    // The same with the bends: those from `cut` on are kept, and the last before it is folded. What is folded
+    // stands first.
+    pub fn dollavir_full_cut(events: *mut i64, events_length: usize, count: *mut usize, cut: i64, store: *const u8, store_length: usize) -> u32;
+
+    // A note's velocity at the track's time, of the curve or cycle that is reserved, or the default; a curve that
+    // is over goes. Leaves it in `value`. Refuses 4.
+    pub fn dollavir_calc_v_on_time(track: *mut Track, def: i32, value: *mut i32) -> u32;
+
+    // The same of a note's timing. Leaves it in `value`. Refuses 4.
+    pub fn dollavir_calc_t_on_time(track: *mut Track, def: i32, value: *mut i32) -> u32;
+
+    // The same of a note's gate. Leaves it in `value`. Refuses 4.
+    pub fn dollavir_calc_qlen_on_time(track: *mut Track, def: i32, value: *mut i32) -> u32;
+
+    // The same of a note's octave. Leaves it in `value`. Refuses 4.
+    pub fn dollavir_calc_o_on_time(track: *mut Track, def: i32, value: *mut i32) -> u32;
+
+    // The same of a note's length. Leaves it in `value`. Refuses 4.
+    pub fn dollavir_calc_l_on_time(track: *mut Track, def: i32, value: *mut i32) -> u32;
+
+    // A note's velocity, the next of the list that is reserved, or the default; a list that is spent goes. While
+    // the list is there, the value is the track's velocity too. Leaves it in `value`. Refuses 4.
+    pub fn dollavir_calc_v_on_note(track: *mut Track, def: i32, value: *mut i32) -> u32;
+
+    // The same of a note's timing. Leaves it in `value`. Refuses 4.
+    pub fn dollavir_calc_t_on_note(track: *mut Track, def: i32, value: *mut i32) -> u32;
+
+    // The same of a note's gate, which is no longer one in steps then. Leaves it in `value`. Refuses 4.
+    pub fn dollavir_calc_qlen_on_note(track: *mut Track, def: i32, value: *mut i32) -> u32;
+
+    // The same of a note's octave. Leaves it in `value`. Refuses 4.
+    pub fn dollavir_calc_o_on_note(track: *mut Track, def: i32, value: *mut i32) -> u32;
+
+    // The same of a note's length, which the track does not keep. Leaves it in `value`. Refuses 4.
+    pub fn dollavir_calc_l_on_note(track: *mut Track, def: i32, value: *mut i32) -> u32;
+
+    // A layer's value; nothing stays reserved for it. Refuses 4, 5.
+    pub fn dollavir_set_v_sub(track: *mut Track, index: usize, velocity: i32) -> u32;
+
+    // A layer's random width. Refuses 4, 5.
+    pub fn dollavir_set_v_sub_random(track: *mut Track, index: usize, random: i32) -> u32;
+
+    // Reserves a curve for a layer, from the track's time and the velocity parameter's delay on. Refuses 3, 4, 5.
+    pub fn dollavir_set_v_sub_on_time(track: *mut Track, index: usize, values: *const i32, values_length: usize) -> u32;
+
+    // Reserves a cycle for a layer, its length and then its values; nothing, where there is no value. Refuses 3,
+    // 4, 5.
+    pub fn dollavir_set_v_sub_on_cycle(track: *mut Track, index: usize, args: *const i32, args_length: usize) -> u32;
+
+    // Reserves a value of a layer for each of the next notes, round and round where the velocity parameter's
+    // repeat stands. Refuses 3, 4, 5.
+    pub fn dollavir_set_v_sub_on_note(track: *mut Track, index: usize, values: *const i32, values_length: usize) -> u32;
+
+    // A note's velocity at the track's time: the given one and what every layer adds to it. The layers come back
+    // advanced. Leaves it in `value`. Refuses 4.
+    pub fn dollavir_apply_v_sub(track: *mut Track, velocity: i32, value: *mut i64) -> u32;
+
+    // The setters of a parameter, `which` by its number; any other number refuses 4. Reserves a curve, low, high
+    // and length by threes, from the track's time and the parameter's delay on. Refuses 3, 4.
+    pub fn dollavir_set_param_on_time(track: *mut Track, which: u32, values: *const i32, values_length: usize) -> u32;
+
+    // Reserves a cycle, its length and then its values, from there on; nothing, where there is no value. Refuses
+    // 3, 4.
+    pub fn dollavir_set_param_on_cycle(track: *mut Track, which: u32, args: *const i32, args_length: usize) -> u32;
+
+    // Reserves a value for each of the next notes, round and round where repeat stands. Refuses 3, 4.
+    pub fn dollavir_set_param_on_note(track: *mut Track, which: u32, values: *const i32, values_length: usize) -> u32;
+
+    // Nothing stays reserved. Refuses 4.
+    pub fn dollavir_clear_param_reserve(track: *mut Track, which: u32) -> u32;
+
+    // The random width of a value. Refuses 4.
+    pub fn dollavir_set_param_random(track: *mut Track, which: u32, random: i32) -> u32;
+
+    // The range of a value. Refuses 4.
+    pub fn dollavir_set_param_range(track: *mut Track, which: u32, low: i32, high: i32) -> u32;
+
+    // No range. Refuses 4.
+    pub fn dollavir_clear_param_range(track: *mut Track, which: u32) -> u32;
+
+    // The delay of what is reserved from now on. Refuses 4.
+    pub fn dollavir_set_param_delay(track: *mut Track, which: u32, delay: i32) -> u32;
+
+    // The maximum of a value. Refuses 4.
+    pub fn dollavir_set_param_max(track: *mut Track, which: u32, max: i32) -> u32;
+
+    // No maximum. Refuses 4.
+    pub fn dollavir_clear_param_max(track: *mut Track, which: u32) -> u32;
+
+    // Whether a list that is reserved from now on goes round: 0 or 1. Refuses 4.
+    pub fn dollavir_set_param_repeat(track: *mut Track, which: u32, repeat: u32) -> u32;
+
+    // A note of a length and a velocity. Refuses 4.
+    pub fn dollavir_event_note(time: i64, channel: i64, number: i64, len: i64, vel: i64) -> Made;
+
+    // A program. Refuses 4.
+    pub fn dollavir_event_voice(time: i64, channel: i64, value: i64) -> Made;
+
+    // A controller's value. Refuses 2 a number that is no controller's, then 4.
+    pub fn dollavir_event_cc(time: i64, channel: i64, number: i64, value: i64) -> Made;
+
+    // A bend. Refuses 4.
+    pub fn dollavir_event_pitch_bend(time: i64, channel: i64, value: i64) -> Made;
+
+    // A bend's range. Refuses 4.
+    pub fn dollavir_event_pitch_bend_range(time: i64, channel: i64, value: i64) -> Made;
+
+    // A meta event, its data the `len` bytes of `store` from `offset` on. Refuses 4.
+    pub fn dollavir_event_meta(time: i64, v1: i64, v2: i64, v3: i64, offset: i64, len: i64, store: *const u8, store_length: usize) -> Made;
+
+    // Bytes of `store` that are written as they stand. Refuses 4.
+    pub fn dollavir_event_direct_smf(time: i64, offset: i64, len: i64, store: *const u8, store_length: usize) -> Made;
+
+    // A system exclusive message of bytes of `store`. Refuses 4.
+    pub fn dollavir_event_sysex_raw(time: i64, offset: i64, len: i64, store: *const u8, store_length: usize) -> Made;
+
+    // The bytes that an event counts in the budget. Refuses 4 an event that may not be stored beside `store`.
+    pub fn dollavir_event_bytes(event: *const Event, store: *const u8, store_length: usize, bytes: *mut usize) -> u32;
+
+    // Nothing reserved, no option set.
+    pub fn dollavir_param_new() -> NoteParam;
+
+    // Nothing stays reserved. Refuses 4.
+    pub fn dollavir_param_clear_reserve(param: *mut NoteParam) -> u32;
+
+    // 1 where something is reserved, else 0. Leaves it in `value`. Refuses 4.
+    pub fn dollavir_param_has_reserve(param: *const NoteParam, value: *mut i32) -> u32;
+
+    // Reserves a curve, low, high and length by threes, from `timepos` and the delay on. Refuses 3, 4.
+    pub fn dollavir_param_set_on_time(param: *mut NoteParam, timepos: i64, values: *const i32, values_length: usize) -> u32;
+
+    // Reserves a cycle, its length and then its values, from `timepos` and the delay on; nothing, where there is
+    // no value. Refuses 3, 4.
+    pub fn dollavir_param_set_on_cycle(param: *mut NoteParam, timepos: i64, args: *const i32, args_length: usize) -> u32;
+
+    // Reserves a value for each of the next notes, round and round where repeat stands. Refuses 3, 4.
+    pub fn dollavir_param_set_on_note(param: *mut NoteParam, values: *const i32, values_length: usize) -> u32;
+
+    // The value of the reserved curve or cycle at `timepos`, or the default; a curve that is over goes. Leaves it
+    // in `value`. Refuses 4.
+    pub fn dollavir_param_calc_on_time(param: *mut NoteParam, timepos: i64, def: i32, value: *mut i32) -> u32;
+
+    // The next value of the reserved list, or the default; a list that is spent goes. Leaves it in `value`.
+    // Refuses 4.
+    pub fn dollavir_param_calc_on_note(param: *mut NoteParam, def: i32, value: *mut i32) -> u32;
+
+    // A value limited by the range and then by the maximum, where there is one. Leaves it in `limited`. Refuses
+    // 4.
+    pub fn dollavir_param_apply_limit(param: *const NoteParam, value: i32, limited: *mut i32) -> u32;
+
+    // The maximum, or the default where there is none. Leaves it in `value`. Refuses 4.
+    pub fn dollavir_param_max_or(param: *const NoteParam, def: i32, value: *mut i32) -> u32;
+
+    // The random width of a value. Refuses 4.
+    pub fn dollavir_param_set_random(param: *mut NoteParam, random: i32) -> u32;
+
+    // The range of a value. Refuses 4.
+    pub fn dollavir_param_set_range(param: *mut NoteParam, low: i32, high: i32) -> u32;
+
+    // No range. Refuses 4.
+    pub fn dollavir_param_clear_range(param: *mut NoteParam) -> u32;
+
+    // The delay of what is reserved from now on. Refuses 4.
+    pub fn dollavir_param_set_delay(param: *mut NoteParam, delay: i32) -> u32;
+
+    // The maximum of a value. Refuses 4.
+    pub fn dollavir_param_set_max(param: *mut NoteParam, max: i32) -> u32;
+
+    // No maximum. Refuses 4.
+    pub fn dollavir_param_clear_max(param: *mut NoteParam) -> u32;
+
+    // Whether a list that is reserved from now on goes round: 0 or 1. Refuses 4.
+    pub fn dollavir_param_set_repeat(param: *mut NoteParam, repeat: u32) -> u32;
+
+    // One layer, with nothing set.
+    pub fn dollavir_layers_new() -> Layers;
+
+    // A layer's value; nothing stays reserved for it. Refuses 4, 5.
+    pub fn dollavir_layers_set_v_sub(layers: *mut Layers, index: usize, velocity: i32) -> u32;
+
+    // A layer's random width. Refuses 4, 5.
+    pub fn dollavir_layers_set_v_sub_random(layers: *mut Layers, index: usize, random: i32) -> u32;
+
+    // Reserves a curve for a layer, from `timepos` and the velocity parameter's delay on. Refuses 3, 4, 5.
+    pub fn dollavir_layers_set_v_sub_on_time(layers: *mut Layers, index: usize, timepos: i64, delay: i32, values: *const i32, values_length: usize) -> u32;
+
+    // Reserves a cycle for a layer, its length and then its values, from `timepos` and the velocity parameter's
+    // delay on; nothing, where there is no value. Refuses 3, 4, 5.
+    pub fn dollavir_layers_set_v_sub_on_cycle(layers: *mut Layers, index: usize, timepos: i64, delay: i32, args: *const i32, args_length: usize) -> u32;
+
+    // Reserves a value of a layer for each of the next notes, round and round where the velocity parameter's
+    // repeat stands. Refuses 3, 4, 5.
+    pub fn dollavir_layers_set_v_sub_on_note(layers: *mut Layers, index: usize, repeat: u32, values: *const i32, values_length: usize) -> u32;
+
+    // A note's velocity at `timepos`: the given one and what every layer adds to it. The layers come back
+    // advanced. Leaves it in `value`. Refuses 4.
+    pub fn dollavir_layers_apply_v_sub(layers: *mut Layers, timepos: i64, velocity: i32, value: *mut i64) -> u32;
 }

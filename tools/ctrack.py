@@ -40,6 +40,7 @@ SPOKEN = {
 
 # The calls that are exported, in the order of docs/API.md: `crate::function`, under the function's own name or the one after `as`.
 TABLE = [
+    ('A new track, a budget, an empty cycle record', 'state::Track::new=track_new budget::Budget::new=budget_new tables::no_cycle=cycle_none'),
     ('The track\'s own numbers', 'state::set_timepos state::set_channel state::set_cc_on_time_freq state::set_pb_on_time_freq'),
     ('A target\'s option', 'drawing::get_write_opt drawing::set_delay drawing::set_random drawing::set_range drawing::clear_range drawing::set_repeat'),
     ('Writes at the track\'s time', 'drawing::write_on_time drawing::write_cc_on_time drawing::write_pb_on_time drawing::write_sine'),
@@ -48,7 +49,21 @@ TABLE = [
      ' reserving::remove_cc_on_note reserving::remove_cc_on_note_wave'),
     ('Writes at notes and cycles', 'noting::write_cc_on_note waving::write_cc_on_note_wave lending::write_cc_on_cycle'),
     ('A controller\'s value', 'track::current_cc_value'),
+    ('The event list', 'eventlist::remove_pitch_bend_in_range sorting::events_sort notes::split_note_off notes::normalize cutting::play_from cutting::full_cut'),
+    ('The track\'s parameters and layers', ' '.join(f'playing::calc_{p}_on_{w}' for w in ('time', 'note') for p in ('v', 't', 'qlen', 'o', 'l'))
+     + ' playing::set_v_sub playing::set_v_sub_random playing::set_v_sub_on_time playing::set_v_sub_on_cycle playing::set_v_sub_on_note playing::apply_v_sub'
+     ' playing::set_param_on_time playing::set_param_on_cycle playing::set_param_on_note playing::clear_param_reserve playing::set_param_random playing::set_param_range'
+     ' playing::clear_param_range playing::set_param_delay playing::set_param_max playing::clear_param_max playing::set_param_repeat'),
+    ('Events', 'events::Event::note=event_note events::Event::voice=event_voice events::Event::cc=event_cc events::Event::pitch_bend=event_pitch_bend'
+     ' events::Event::pitch_bend_range=event_pitch_bend_range events::Event::meta=event_meta events::Event::direct_smf=event_direct_smf events::Event::sysex_raw=event_sysex_raw events::Event::estimated_midi_bytes=event_bytes'),
+    ('A note parameter of its own', 'params::NoteParam::new=param_new ' + ' '.join(f'params::NoteParam::{n}=param_{n}' for n in (
+        'clear_reserve', 'has_reserve', 'set_on_time', 'set_on_cycle', 'set_on_note', 'calc_on_time', 'calc_on_note', 'apply_limit', 'max_or', 'set_random', 'set_range', 'clear_range',
+        'set_delay', 'set_max', 'clear_max', 'set_repeat'))),
+    ('Velocity layers of their own', 'layers::Layers::new=layers_new ' + ' '.join(f'layers::Layers::{n}=layers_{n}' for n in (
+        'set_v_sub', 'set_v_sub_random', 'set_v_sub_on_time', 'set_v_sub_on_cycle', 'set_v_sub_on_note', 'apply_v_sub'))),
 ]
+# The calls that are handed nothing by reference but slices and numbers: the prover covers them, and no walk is written.
+PLAIN = ('eventlist', 'sorting', 'notes', 'cutting')
 PARTS = ('track', 'param', 'layers', 'event', 'budget', 'count')
 
 
@@ -78,7 +93,8 @@ class Export:
         g = self.g = Call(crate, name_)
         self.name = 'dollavir_' + (name or g.name)
         self.answer = {'loans': 'Kept', 'lending': 'Cycled'}.get(crate, g.result)
-        self.fields = dict(fields(self.answer)) if self.answer in ANSWERS else {}
+        self.whole = bool(re.search(r'new$|^cycle_none$|^event_(?!bytes)', name))
+        self.fields = dict(fields(self.answer)) if self.answer in ANSWERS and not self.whole else {}
         self.pre, self.lets = [], {}
         self.signature()
         self.says()
@@ -94,16 +110,19 @@ class Export:
             if kind == 'val' and t[0] == '[' or m == 'size':
                 continue
             text = {'table': f'&mut [{t}]', 'slice': f'&[{t}]', 'ref': f'&mut {t}'}.get(kind, t)
-            if kind == 'val' and (m in PARTS and (t[0].isupper() or m in self.fields)):
+            if kind == 'val' and not self.whole and (m in PARTS and (t[0].isupper() or m in self.fields)):
                 text = f'&mut {t}' if m in self.fields else f'&{t}'
                 self.args.append('*' + m)
             else:
                 self.args.append(m)
             self.params.append((m, text))
-        here = [n for n, _ in self.params]
+        if g.name == 'split_note_off':
+            self.params[1], self.args[1] = ('count', 'usize'), 'count'
+        here = dict(self.params)
+        self.out = {f: {'count': 'out_count', 'value': 'limited'}[f] if f in here and not here[f].startswith('&') else f for f in self.fields}
         for f, t in self.fields.items():
-            if f != 'code' and f not in here:
-                self.params.append((f, f'&mut {t}'))
+            if f != 'code' and self.out[f] not in here:
+                self.params.append((self.out[f], f'&mut {t}'))
         given = [n for n, kind, _ in self.params_of() if kind in ('ref', 'table')]
         self.stores = [f for f in self.fields if f != 'code' and f not in given]
 
@@ -119,7 +138,7 @@ class Export:
         self.left = None
         m = re.fullmatch(r'Drawn \((.*)\) r \(now \(events \.exit\)\)', e)
         k = re.fullmatch(r'Reserved \((.*)\) r \(now \(cycles \.exit\)\)', e)
-        p = re.fullmatch(r'\(r ≡ (.*)\) × \(now \(events \.exit\) ≡ (.*)\)', e)
+        p = re.fullmatch(r'\(r ≡ (.*)\) × \(now \((?:events|out) \.exit\) ≡ (.*)\)', e)
         self.eq, self.rest = 'e1', {}
         if m:
             self.is_, self.left = f'drawAnswer ({m[1]})', f'drawLeft ({m[1]})'
@@ -157,15 +176,20 @@ class Export:
     # the function
     def contract(self, alias):
         text = lambda x: re.sub(walk.WORD % '([A-Za-z]+)', lambda m: alias.get((self.name, m[1]), m[1]), x)
-        outs = ' '.join(f'(now ({f} .exit))' for f in self.fields if f != 'code')
-        parts = [f'({text(self.is_)})'] + ([f'({text(self.left)})'] if self.left else []) + ['r' + ' ' * bool(outs) + outs + (' (now (events .exit))' if self.left else '')]
+        if self.whole:
+            return f'r ≡ {text(self.is_)}'
+        if self.answer == 'u32':
+            return f'(r ≡ {text(self.is_)}) × (now (events .exit) ≡ {text(self.left)})'
+        split = self.g.name == 'split_note_off'
+        outs = ' '.join(f'(now ({"«out_count»" if split else self.out[f]} .exit))' for f in self.fields if f != 'code')
+        parts = [f'({text(self.is_)})'] + ([f'({text(self.left)})'] if self.left else []) + ['r' + ' ' * bool(outs) + outs + (f' (now ({"out" if split else "events"} .exit))' if self.left else '')]
         name = ANSWERS[self.answer][1]
         one = f'{name} {" ".join(parts)}'
         return one if len(one) < 150 else name + ' ' + '\n        '.join(parts)
 
     def comment(self):
         c = self.g.comment
-        outs = [n for n, t in self.params if t.startswith('&mut ') and n in ('value', 'option', 'bytes')]
+        outs = [n for n, t in self.params if t.startswith('&mut ') and n in ('value', 'option', 'bytes', 'limited')]
         if outs:
             c = re.sub(r' (Refuses [\d, ]+\.)', lambda m: f' Leaves it in `{outs[0]}`. ' + m[1], c)
         lines, line = [], '//'
@@ -181,13 +205,18 @@ class Export:
 
     def body(self):
         g = self.g
-        call = f'{g.crate}::{g.owner + "::" * bool(g.owner)}{g.name}' if not g.owner else f'{self.args[0]}.{g.name}'
+        if self.whole or self.answer == 'u32':
+            return f'    {g.owner if g.owner else g.crate}::{g.name}({", ".join(self.args)})'
+        if g.crate in PLAIN:
+            n = 'out_count' if g.name == 'split_note_off' else 'count'
+            return f'    let r = {g.crate}::{g.name}({", ".join(self.args)});\n    *{n} = r.count;\n    r.code'
+        call = f'{g.owner or g.crate}::{g.name}'
         lets, args = [], list(self.args)
         if g.crate == 'reserving' and self.answer == 'Kept':
             call, lets, args = OLD[g.name]
         out = [f'    {l}' for l in lets]
         out.append(f'    let r = {call}({", ".join(args)});')
-        out += [f'    *{f} = {self.helper_of(f)}(r);' for f in self.stores]
+        out += [f'    *{self.out[f]} = {self.helper_of(f)}(r);' for f in self.stores]
         return '\n'.join(out + [f'    {self.helper_of("code")}(r)'])
 
     def result(self):
@@ -199,9 +228,39 @@ class Export:
 
     def text(self, alias):
         ps = ', '.join(f'{n}: {t}' for n, t in self.params)
-        return f'{self.comment()}\n#[no_mangle]\npub extern "C" fn {self.name}({ps}) -> u32\n    ensures {{ λ r. ⌜ {self.contract(alias)} ⌝ }}\n{{\n{self.body()}\n}}\n'
+        return f'{self.comment()}\n#[no_mangle]\npub extern "C" fn {self.name}({ps}) -> {self.answer if self.whole else "u32"}\n    ensures {{ λ r. ⌜ {self.contract(alias)} ⌝ }}\n{{\n{self.body()}\n}}\n'
 
-    # its proof
+    def covered(self):
+        return not any(t.startswith('&') and t.replace('&mut ', '&')[1].isupper() for _, t in self.params)
+
+    # its proof, where no walk is asked: numbers with a sign are handed on as the machine has them
+    def plain(self):
+        g, d = self.g, self.g.dash
+        signed = [n for n, t in self.params if t in ('i32', 'i64')]
+        listed = g.crate in PLAIN
+        if self.answer == 'u32' or not (signed or listed):
+            return
+        at = 'c .before' if listed else 'c'
+        start = 'c' + ' .before' * (5 if listed else 1 + any(t.startswith('&') for _, t in self.params))
+        rw = ', '.join(f'toZ-ofZ (s .fits .{n})' for n in signed)
+        said = f'{at} .{d} .ensures'
+        if signed:
+            rw = f'rw ({rw})'
+            said = f'let s = {start} in {rw} at ({said})' if not listed else f'{rw} at ({said})'
+        if listed:
+            lets = f'let s = {start} in ' * bool(signed)
+            said = f'{lets}let e = {said} in record {{ code = ap (λ (t : Taken). t .code) (e .0); count = ap (λ (t : Taken). t .count) (e .0); events = e .1 }}'
+        m = f'Rattle.ctrack.proofs.{self.name}'
+        out = [f'-- `{self.name}` is `{self.ref}`. Written by tools/ctrack.py.', 'use borrow.Author.Needs.{needs}']
+        out += ['use mathlib.Core.Path.{ap}', 'use Rattle.eventlist.specs.declared.Taken.{Taken}'] * listed + ['use mir.Facts.{toZ-ofZ}'] * bool(signed)
+        out += [f'use {m}.Statement.{{statement}}', f'use {m}.Tie as tie', '', f'{d}-requires : tie.Need-{d}-requires', f'{d}-requires c κs = search needs', '']
+        out += ['same-length : tie.Need-same-length', 'same-length c = search needs', ''] * listed
+        dash = self.name.replace('_', '-')
+        out += ['returns : tie.Need-returns', f'returns c = {said}', '', f'pub {dash}-spec : {{M : Type 1}} → statement M', f'{dash}-spec = tie.close (tie.spec {d}-requires {"same-length " * listed}returns)']
+        os.makedirs(f'crates/ctrack/proofs/{self.name}', exist_ok=True)
+        open(f'crates/ctrack/proofs/{self.name}/Proof.antt', 'w').write('\n'.join(out) + '\n')
+
+    # its proof, where a record is lent
     def about(self):
         x, order = self.result(), self.stores + ['code']
         old = self.g.crate == 'reserving' and self.answer == 'Kept'
@@ -264,18 +323,20 @@ def source():
             uses.setdefault(module, []).append(n if short == n else f'{n} as {short}')
             for x in xs:
                 alias[x.name, n] = short
-    records = list(dict.fromkeys(ANSWERS[x.answer][1] for x in every))
+    lent = [x for x in every if x.fields]
+    records = list(dict.fromkeys(ANSWERS[x.answer][1] for x in lent))
     types = dict.fromkeys(re.findall(r'[A-Z]\w*', ' '.join(t for x in every for _, t in x.params)))
-    results = dict.fromkeys(x.result() for x in every)
+    types.update(dict.fromkeys(x.g.owner for x in every if x.g.owner))
+    results = dict.fromkeys(x.result() for x in every if x.g.crate not in PLAIN)
     out = [HEAD + 'ghost use mathlib.Core.Path.{_≡_};']
     out += [f'ghost use lib.IntN.{{pos}};']
     out += [f'ghost use {m}.{{{", ".join(ns)}}};' for m, ns in uses.items()]
     out += ['ghost use Rattle.reserving.specs.Old.{normal};'] * any(x.g.name in OLD for x in every)
     out += [f'ghost use Rattle.ctrack.specs.Lent.{{{", ".join(records)}}};']
-    home = {**{k: v[0] for k, v in ANSWERS.items()}, 'Track': 'state', 'Budget': 'budget', 'Cycle': 'cycles', 'WriteOption': 'values', 'OnNoteSine': 'tables', 'Answer': 'lending', 'NoteParam': 'params', 'Layers': 'layers', 'Event': 'events'}
+    home = {**{k: v[0] for k, v in ANSWERS.items()}, 'Track': 'state', 'Budget': 'budget', 'Cycle': 'cycles', 'WriteOption': 'values', 'OnNoteSine': 'tables', 'Answer': 'lending', 'NoteParam': 'params', 'Layers': 'layers', 'Event': 'events', 'Made': 'events'}
     out += sorted(f'use {home[t]}::{t};' for t in {**types, **results})
     out += ['', '// The parts of what a call by value answers.']
-    need = dict.fromkeys((x.result(), f) for x in every for f in x.stores + ['code'])
+    need = dict.fromkeys((x.result(), f) for x in lent if x.g.crate not in PLAIN for f in x.stores + ['code'])
     for r, f in need:
         t = dict(walk.fields_of(home[r], r))[f]
         out += [f'fn {snake(r)}_{f}(r: {r}) -> {t}\n    ensures {{ λ z. ⌜ z ≡ r .{f} ⌝ }}\n{{\n    r.{f}\n}}\n'.replace('(r:', '(a:').replace('λ z. ⌜ z ≡ r .', 'λ r. ⌜ r ≡ a .').replace('    r.', '    a.')]
@@ -299,7 +360,7 @@ fn bend() -> i32
     # what the contracts say
     spec = ['-- What a call that is lent its records promises: of what the call by value is defined to answer and to leave, its number and all that', '-- is lent, as it is afterwards. A call\'s own definition stands with the call by value. Written by tools/ctrack.py.',
             'use mathlib.Core.Path.{_≡_}', 'use mathlib.Core.List.{List}', 'use Prim.Native.Nat.{ℕ}', 'use lib.IntN.{ℤ}']
-    answers = list(dict.fromkeys(x.answer for x in every))
+    answers = list(dict.fromkeys(x.answer for x in lent))
     seen = set()
     for a in answers:
         for t in [a] + [re.sub(r'\[(\w+); \w+\]', r'\1', t) for _, t in fields(a)]:
@@ -320,7 +381,9 @@ if __name__ == '__main__':
     else:
         for _, xs in exports():
             for x in xs:
-                if any(t.startswith('&') and t.replace('&mut ', '&')[1].isupper() for _, t in x.params):
+                if x.covered():
+                    x.plain()
+                else:
                     if not sys.argv[1:] or x.name in sys.argv[1:]:
                         thin.prove(x.name, x.about())
                     else:

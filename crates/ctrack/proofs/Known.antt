@@ -21,16 +21,38 @@ use Rattle.budget.proofs.Budget as Budget′
 use Rattle.budget.proofs.Budget.Laws as Budget′l
 use Rattle.cutting.proofs.CcValue as CcValue′
 use Rattle.cutting.proofs.CcValue.Laws as CcValue′l
+use Rattle.events.proofs.Event as Event′
+use Rattle.events.proofs.Event.Laws as Event′l
+use Rattle.layers.proofs.Layers as Layers′
+use Rattle.layers.proofs.Layers.Laws as Layers′l
+use Rattle.layers.proofs.LayersAnswer as LayersAnswer′
+use Rattle.layers.proofs.LayersAnswer.Laws as LayersAnswer′l
+use Rattle.params.proofs.NoteParam as NoteParam′
+use Rattle.params.proofs.NoteParam.Laws as NoteParam′l
 use Rattle.noting.proofs.Noted as Noted′
 use Rattle.noting.proofs.Noted.Laws as Noted′l
 use Rattle.drawing.proofs.OptionAnswer as OptionAnswer′
 use Rattle.drawing.proofs.OptionAnswer.Laws as OptionAnswer′l
 use Rattle.writing.proofs.Outcome as Outcome′
 use Rattle.writing.proofs.Outcome.Laws as Outcome′l
+use Rattle.params.proofs.ParamAnswer as ParamAnswer′
+use Rattle.params.proofs.ParamAnswer.Laws as ParamAnswer′l
+use Rattle.params.proofs.ParamValue as ParamValue′
+use Rattle.params.proofs.ParamValue.Laws as ParamValue′l
+use Rattle.events.proofs.Size as Size′
+use Rattle.events.proofs.Size.Laws as Size′l
+use Rattle.params.proofs.Told as Told′
+use Rattle.params.proofs.Told.Laws as Told′l
 use Rattle.state.proofs.Track as Track′
 use Rattle.state.proofs.Track.Laws as Track′l
 use Rattle.state.proofs.TrackAnswer as TrackAnswer′
 use Rattle.state.proofs.TrackAnswer.Laws as TrackAnswer′l
+use Rattle.playing.proofs.TrackValue as TrackValue′
+use Rattle.playing.proofs.TrackValue.Laws as TrackValue′l
+use Rattle.playing.proofs.TrackVelocity as TrackVelocity′
+use Rattle.playing.proofs.TrackVelocity.Laws as TrackVelocity′l
+use Rattle.layers.proofs.Velocity as Velocity′
+use Rattle.layers.proofs.Velocity.Laws as Velocity′l
 use Rattle.values.proofs.WriteOption as WriteOption′
 use Rattle.values.proofs.WriteOption.Laws as WriteOption′l
 
@@ -121,6 +143,50 @@ module _ {M : Type 1} (𝓤 : URA M) (H : Heap 𝓤) (A : Atoms 𝓤) (W : Given
     copy = LL.copy CcValue′.the-type CcValue′l.the-copy 𝓤 H A W;
   }
 
+  abbrev pub Event-known : Known 𝓤 H A Event′.the-row
+  Event-known = record {
+    τ = Event′l.mir;
+    one = refl;
+    val = LL.val Event′.the-type Event′l.the-laws;
+    tells = LL.tells Event′.the-type Event′l.the-laws;
+    typed = λ x v i. LL.lawful Event′.the-type Event′l.the-laws 𝓤 H A W .typed x _ i .0;
+    makes = LL.makes Event′.the-type Event′l.the-plain 𝓤 H A;
+    copy = LL.copy Event′.the-type Event′l.the-copy 𝓤 H A W;
+  }
+
+  abbrev pub Layers-known : Known 𝓤 H A Layers′.the-row
+  Layers-known = record {
+    τ = Layers′l.mir;
+    one = refl;
+    val = LL.val Layers′.the-type Layers′l.the-laws;
+    tells = LL.tells Layers′.the-type Layers′l.the-laws;
+    typed = λ x v i. LL.lawful Layers′.the-type Layers′l.the-laws 𝓤 H A W .typed x _ i .0;
+    makes = LL.makes Layers′.the-type Layers′l.the-plain 𝓤 H A;
+    copy = LL.copy Layers′.the-type Layers′l.the-copy 𝓤 H A W;
+  }
+
+  abbrev pub LayersAnswer-known : Known 𝓤 H A LayersAnswer′.the-row
+  LayersAnswer-known = record {
+    τ = LayersAnswer′l.mir;
+    one = refl;
+    val = LL.val LayersAnswer′.the-type LayersAnswer′l.the-laws;
+    tells = LL.tells LayersAnswer′.the-type LayersAnswer′l.the-laws;
+    typed = λ x v i. LL.lawful LayersAnswer′.the-type LayersAnswer′l.the-laws 𝓤 H A W .typed x _ i .0;
+    makes = LL.makes LayersAnswer′.the-type LayersAnswer′l.the-plain 𝓤 H A;
+    copy = LL.copy LayersAnswer′.the-type LayersAnswer′l.the-copy 𝓤 H A W;
+  }
+
+  abbrev pub NoteParam-known : Known 𝓤 H A NoteParam′.the-row
+  NoteParam-known = record {
+    τ = NoteParam′l.mir;
+    one = refl;
+    val = LL.val NoteParam′.the-type NoteParam′l.the-laws;
+    tells = LL.tells NoteParam′.the-type NoteParam′l.the-laws;
+    typed = λ x v i. LL.lawful NoteParam′.the-type NoteParam′l.the-laws 𝓤 H A W .typed x _ i .0;
+    makes = LL.makes NoteParam′.the-type NoteParam′l.the-plain 𝓤 H A;
+    copy = LL.copy NoteParam′.the-type NoteParam′l.the-copy 𝓤 H A W;
+  }
+
   abbrev pub Noted-known : Known 𝓤 H A Noted′.the-row
   Noted-known = record {
     τ = Noted′l.mir;
@@ -154,6 +220,50 @@ module _ {M : Type 1} (𝓤 : URA M) (H : Heap 𝓤) (A : Atoms 𝓤) (W : Given
     copy = LL.copy Outcome′.the-type Outcome′l.the-copy 𝓤 H A W;
   }
 
+  abbrev pub ParamAnswer-known : Known 𝓤 H A ParamAnswer′.the-row
+  ParamAnswer-known = record {
+    τ = ParamAnswer′l.mir;
+    one = refl;
+    val = LL.val ParamAnswer′.the-type ParamAnswer′l.the-laws;
+    tells = LL.tells ParamAnswer′.the-type ParamAnswer′l.the-laws;
+    typed = λ x v i. LL.lawful ParamAnswer′.the-type ParamAnswer′l.the-laws 𝓤 H A W .typed x _ i .0;
+    makes = LL.makes ParamAnswer′.the-type ParamAnswer′l.the-plain 𝓤 H A;
+    copy = LL.copy ParamAnswer′.the-type ParamAnswer′l.the-copy 𝓤 H A W;
+  }
+
+  abbrev pub ParamValue-known : Known 𝓤 H A ParamValue′.the-row
+  ParamValue-known = record {
+    τ = ParamValue′l.mir;
+    one = refl;
+    val = LL.val ParamValue′.the-type ParamValue′l.the-laws;
+    tells = LL.tells ParamValue′.the-type ParamValue′l.the-laws;
+    typed = λ x v i. LL.lawful ParamValue′.the-type ParamValue′l.the-laws 𝓤 H A W .typed x _ i .0;
+    makes = LL.makes ParamValue′.the-type ParamValue′l.the-plain 𝓤 H A;
+    copy = LL.copy ParamValue′.the-type ParamValue′l.the-copy 𝓤 H A W;
+  }
+
+  abbrev pub Size-known : Known 𝓤 H A Size′.the-row
+  Size-known = record {
+    τ = Size′l.mir;
+    one = refl;
+    val = LL.val Size′.the-type Size′l.the-laws;
+    tells = LL.tells Size′.the-type Size′l.the-laws;
+    typed = λ x v i. LL.lawful Size′.the-type Size′l.the-laws 𝓤 H A W .typed x _ i .0;
+    makes = LL.makes Size′.the-type Size′l.the-plain 𝓤 H A;
+    copy = LL.copy Size′.the-type Size′l.the-copy 𝓤 H A W;
+  }
+
+  abbrev pub Told-known : Known 𝓤 H A Told′.the-row
+  Told-known = record {
+    τ = Told′l.mir;
+    one = refl;
+    val = LL.val Told′.the-type Told′l.the-laws;
+    tells = LL.tells Told′.the-type Told′l.the-laws;
+    typed = λ x v i. LL.lawful Told′.the-type Told′l.the-laws 𝓤 H A W .typed x _ i .0;
+    makes = LL.makes Told′.the-type Told′l.the-plain 𝓤 H A;
+    copy = LL.copy Told′.the-type Told′l.the-copy 𝓤 H A W;
+  }
+
   abbrev pub Track-known : Known 𝓤 H A Track′.the-row
   Track-known = record {
     τ = Track′l.mir;
@@ -174,6 +284,39 @@ module _ {M : Type 1} (𝓤 : URA M) (H : Heap 𝓤) (A : Atoms 𝓤) (W : Given
     typed = λ x v i. LL.lawful TrackAnswer′.the-type TrackAnswer′l.the-laws 𝓤 H A W .typed x _ i .0;
     makes = LL.makes TrackAnswer′.the-type TrackAnswer′l.the-plain 𝓤 H A;
     copy = LL.copy TrackAnswer′.the-type TrackAnswer′l.the-copy 𝓤 H A W;
+  }
+
+  abbrev pub TrackValue-known : Known 𝓤 H A TrackValue′.the-row
+  TrackValue-known = record {
+    τ = TrackValue′l.mir;
+    one = refl;
+    val = LL.val TrackValue′.the-type TrackValue′l.the-laws;
+    tells = LL.tells TrackValue′.the-type TrackValue′l.the-laws;
+    typed = λ x v i. LL.lawful TrackValue′.the-type TrackValue′l.the-laws 𝓤 H A W .typed x _ i .0;
+    makes = LL.makes TrackValue′.the-type TrackValue′l.the-plain 𝓤 H A;
+    copy = LL.copy TrackValue′.the-type TrackValue′l.the-copy 𝓤 H A W;
+  }
+
+  abbrev pub TrackVelocity-known : Known 𝓤 H A TrackVelocity′.the-row
+  TrackVelocity-known = record {
+    τ = TrackVelocity′l.mir;
+    one = refl;
+    val = LL.val TrackVelocity′.the-type TrackVelocity′l.the-laws;
+    tells = LL.tells TrackVelocity′.the-type TrackVelocity′l.the-laws;
+    typed = λ x v i. LL.lawful TrackVelocity′.the-type TrackVelocity′l.the-laws 𝓤 H A W .typed x _ i .0;
+    makes = LL.makes TrackVelocity′.the-type TrackVelocity′l.the-plain 𝓤 H A;
+    copy = LL.copy TrackVelocity′.the-type TrackVelocity′l.the-copy 𝓤 H A W;
+  }
+
+  abbrev pub Velocity-known : Known 𝓤 H A Velocity′.the-row
+  Velocity-known = record {
+    τ = Velocity′l.mir;
+    one = refl;
+    val = LL.val Velocity′.the-type Velocity′l.the-laws;
+    tells = LL.tells Velocity′.the-type Velocity′l.the-laws;
+    typed = λ x v i. LL.lawful Velocity′.the-type Velocity′l.the-laws 𝓤 H A W .typed x _ i .0;
+    makes = LL.makes Velocity′.the-type Velocity′l.the-plain 𝓤 H A;
+    copy = LL.copy Velocity′.the-type Velocity′l.the-copy 𝓤 H A W;
   }
 
   abbrev pub WriteOption-known : Known 𝓤 H A WriteOption′.the-row

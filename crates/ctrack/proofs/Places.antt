@@ -18,8 +18,11 @@ use Rattle.tables.proofs.WaveTable.Laws as WaveTable′
 use Rattle.tables.proofs.OnNoteSine.Laws as OnNoteSine′
 use Rattle.tables.proofs.SineTable.Laws as SineTable′
 use Rattle.state.proofs.Track.Laws as Track′
+use Rattle.state.proofs.TrackAnswer.Laws as TrackAnswer′
 use Rattle.budget.proofs.Budget.Laws as Budget′
 use Rattle.cycles.proofs.Cycle.Laws as Cycle′
+use Rattle.events.proofs.Event.Laws as Event′
+use Rattle.events.proofs.Made.Laws as Made′
 
 -- the place of each field, where the first may stand at k
 abbrev pub places : ℕ → Tys → List ℕ
@@ -78,8 +81,17 @@ sine-table-lies = refl
 pub track-lies : lies Track′.mir ≡ 25816 ∷ 8 ∷ 0 ∷ 8 ∷ 16 ∷ 20 ∷ 24 ∷ 28 ∷ 32 ∷ 36 ∷ 40 ∷ 44 ∷ 48 ∷ 504 ∷ 960 ∷ 1416 ∷ 1872 ∷ 2328 ∷ 9248 ∷ 12344 ∷ 19008 ∷ 25416 ∷ 25808 ∷ []
 track-lies = refl
 
+pub track-answer-lies : lies TrackAnswer′.mir ≡ 25824 ∷ 8 ∷ 0 ∷ 8 ∷ []
+track-answer-lies = refl
+
 pub budget-lies : lies Budget′.mir ≡ 16 ∷ 4 ∷ 0 ∷ 4 ∷ 8 ∷ 12 ∷ []
 budget-lies = refl
 
 pub cycle-lies : lies Cycle′.mir ≡ 416 ∷ 8 ∷ 0 ∷ 4 ∷ 8 ∷ 16 ∷ 24 ∷ []
 cycle-lies = refl
+
+pub event-lies : lies Event′.mir ≡ 64 ∷ 8 ∷ 0 ∷ 8 ∷ 16 ∷ 24 ∷ 32 ∷ 40 ∷ 48 ∷ 56 ∷ []
+event-lies = refl
+
+pub made-lies : lies Made′.mir ≡ 72 ∷ 8 ∷ 0 ∷ 8 ∷ []
+made-lies = refl

@@ -1,3 +1,5 @@
+pub mod WalkM
+pub mod WalkMl
 pub mod WalkMt
 pub mod WalkMtv
 pub mod WalkMtv2
@@ -7,9 +9,16 @@ pub mod WalkMtvl3
 pub mod WalkMtvv
 pub mod WalkMtvvl
 pub mod WalkMv
+pub mod WalkMvl
+pub mod WalkMvm
 pub mod WalkMvmtm
 pub mod WalkMvv
+pub mod WalkMvvl
+pub mod WalkMvvm
 pub mod WalkMvvv
+pub mod WalkMvvvl
+pub mod WalkSlm
+pub mod WalkSm
 pub mod WalkStvgtm
 pub mod WalkSvlmtml
 pub mod WalkSvlvlm

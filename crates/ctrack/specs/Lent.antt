@@ -15,6 +15,17 @@ use Rattle.cycles.specs.declared.Cycle.{Cycle}
 use Rattle.noting.specs.declared.Noted.{Noted}
 use Rattle.cycling.specs.declared.Cycled.{Cycled}
 use Rattle.cutting.specs.declared.CcValue.{CcValue}
+use Rattle.eventlist.specs.declared.Taken.{Taken}
+use Rattle.playing.specs.declared.TrackValue.{TrackValue}
+use Rattle.playing.specs.declared.TrackVelocity.{TrackVelocity}
+use Rattle.events.specs.declared.Size.{Size}
+use Rattle.params.specs.declared.ParamAnswer.{ParamAnswer}
+use Rattle.params.specs.declared.NoteParam.{NoteParam}
+use Rattle.params.specs.declared.Told.{Told}
+use Rattle.params.specs.declared.ParamValue.{ParamValue}
+use Rattle.layers.specs.declared.LayersAnswer.{LayersAnswer}
+use Rattle.layers.specs.declared.Layers.{Layers}
+use Rattle.layers.specs.declared.Velocity.{Velocity}
 
 -- a call that is defined to answer a: it answers the number r and leaves the track t
 pub record TrackLeft (a : TrackAnswer) (r : ℕ) (t : Track) : Type 0 where
@@ -59,3 +70,53 @@ pub record CycleWritten (a : Cycled) (l : List ℤ) (r : ℕ) (n : ℕ) (b : Bud
 pub record CcTold (a : CcValue) (r : ℕ) (v : ℤ) : Type 0 where
   pub code : r ≡ a .code
   pub value : v ≡ a .value
+
+-- a call on the list alone: the number r, the count n, the numbers m
+pub record ListLeft (a : Taken) (l : List ℤ) (r : ℕ) (n : ℕ) (m : List ℤ) : Type 0 where
+  pub code : r ≡ a .code
+  pub count : n ≡ a .count
+  pub events : m ≡ l
+
+-- the same with the value v
+pub record ValueLeft (a : TrackValue) (r : ℕ) (v : ℤ) (t : Track) : Type 0 where
+  pub code : r ≡ a .code
+  pub value : v ≡ a .value
+  pub track : t ≡ a .track
+
+-- the same of a velocity
+pub record VelocityLeft (a : TrackVelocity) (r : ℕ) (v : ℤ) (t : Track) : Type 0 where
+  pub code : r ≡ a .code
+  pub value : v ≡ a .value
+  pub track : t ≡ a .track
+
+-- the bytes n of an event
+pub record SizeTold (a : Size) (r : ℕ) (n : ℕ) : Type 0 where
+  pub code : r ≡ a .code
+  pub bytes : n ≡ a .bytes
+
+-- a parameter that is lent by itself: the number r, the parameter p
+pub record ParamLeft (a : ParamAnswer) (r : ℕ) (p : NoteParam) : Type 0 where
+  pub code : r ≡ a .code
+  pub param : p ≡ a .param
+
+-- a value alone
+pub record ParamTold (a : Told) (r : ℕ) (v : ℤ) : Type 0 where
+  pub code : r ≡ a .code
+  pub value : v ≡ a .value
+
+-- the same with the value v
+pub record ParamTaken (a : ParamValue) (r : ℕ) (v : ℤ) (p : NoteParam) : Type 0 where
+  pub code : r ≡ a .code
+  pub value : v ≡ a .value
+  pub param : p ≡ a .param
+
+-- layers that are lent by themselves: the number r, the layers l
+pub record LayersLeft (a : LayersAnswer) (r : ℕ) (l : Layers) : Type 0 where
+  pub code : r ≡ a .code
+  pub layers : l ≡ a .layers
+
+-- the same with the velocity v
+pub record LayersSum (a : Velocity) (r : ℕ) (v : ℤ) (l : Layers) : Type 0 where
+  pub code : r ≡ a .code
+  pub value : v ≡ a .value
+  pub layers : l ≡ a .layers

@@ -3,8 +3,11 @@
 // document 01's table. Refused, all that is lent stays as it is, and a value that is answered is 0. Written by tools/ctrack.py.
 ghost use mathlib.Core.Path.{_≡_};
 ghost use lib.IntN.{pos};
-ghost use Rattle.state.specs.Calls.{setTimepos, setChannel, setCcFreq, setPbFreq};
+ghost use Rattle.state.specs.Calls.{newOf, setTimepos, setChannel, setCcFreq, setPbFreq};
+ghost use Rattle.budget.specs.Budgets.{unspent};
+ghost use Rattle.tables.specs.Tables.{noCycle};
 ghost use Rattle.drawing.specs.Options.{optionFor, setDelay, setRandom, setRange, clearRange, setRepeat};
+ghost use Rattle.params.specs.Calls.{setDelay as paramsSetDelay, setRandom as paramsSetRandom, setRange as paramsSetRange, clearRange as paramsClearRange, setRepeat as paramsSetRepeat, setOnNote as paramsSetOnNote, setOnCycle as paramsSetOnCycle, setOnTime, clearReserve, setMax, clearMax, hasReserve, calcOnTime, calcOnNote, applyLimit, maximumOr};
 ghost use lib.ListN.{length};
 ghost use Rattle.drawing.specs.Calls.{onTime, drawAnswer, drawLeft, ccTarget, pbTarget, sineFor, onSine};
 ghost use Rattle.reserving.specs.Setting.{removeReserve, setOnNote, setOnNoteWave, setOnNoteSine, setOnCycle};
@@ -13,14 +16,36 @@ ghost use Rattle.noting.specs.Calls.{noted, listLeft};
 ghost use Rattle.waving.specs.Calls.{noteWritten, noteLeft};
 ghost use Rattle.cycling.specs.Calls.{cycledOf, cycledList};
 ghost use Rattle.track.specs.Reading.{ccOfTrack};
+ghost use Rattle.eventlist.specs.Bends.{bendsTaken, bendsLeft};
+ghost use Rattle.sorting.specs.Sorting.{sortRefusal, sortLeft};
+ghost use Rattle.notes.specs.Notes.{splitTaken, splitLeft};
+ghost use Rattle.cutting.specs.Cuts.{cutTaken, cutLeft, plain, whole};
+ghost use Rattle.playing.specs.Which.{velocity, timing, gate, octave, span, paramOf};
+ghost use Rattle.playing.specs.Calls.{valueOnTime, valueOnNote, onLayers, summedUp, onParam};
+ghost use Rattle.layers.specs.Calls.{setVSub, setVSubRandom, setVSubOnTime, setVSubOnCycle, setVSubOnNote, applyVSub};
+ghost use Rattle.events.specs.Events.{noteEvent, made, voiceEvent, madeCc, pitchBendEvent, pitchBendRangeEvent, metaEvent, directSmfEvent, sysexEvent, sizeOf};
+ghost use Rattle.params.specs.Param.{fresh};
+ghost use Rattle.layers.specs.Layers.{oneLayer};
 ghost use Rattle.reserving.specs.Old.{normal};
-ghost use Rattle.ctrack.specs.Lent.{TrackLeft, OptionTold, Written, Reserved, NoteWritten, CycleWritten, CcTold};
+ghost use Rattle.ctrack.specs.Lent.{TrackLeft, OptionTold, Written, Reserved, NoteWritten, CycleWritten, CcTold, ListLeft, ValueLeft, VelocityLeft, SizeTold, ParamLeft, ParamTold, ParamTaken, LayersLeft, LayersSum};
 use budget::Budget;
 use cutting::CcValue;
 use cycles::Cycle;
 use drawing::OptionAnswer;
+use events::Event;
+use events::Made;
+use events::Size;
+use layers::Layers;
+use layers::LayersAnswer;
+use layers::Velocity;
 use lending::Answer;
 use noting::Noted;
+use params::NoteParam;
+use params::ParamAnswer;
+use params::ParamValue;
+use params::Told;
+use playing::TrackValue;
+use playing::TrackVelocity;
 use state::Track;
 use state::TrackAnswer;
 use tables::OnNoteSine;
@@ -118,6 +143,126 @@ fn cc_value_code(a: CcValue) -> u32
     a.code
 }
 
+fn track_value_value(a: TrackValue) -> i32
+    ensures { λ r. ⌜ r ≡ a .value ⌝ }
+{
+    a.value
+}
+
+fn track_value_track(a: TrackValue) -> Track
+    ensures { λ r. ⌜ r ≡ a .track ⌝ }
+{
+    a.track
+}
+
+fn track_value_code(a: TrackValue) -> u32
+    ensures { λ r. ⌜ r ≡ a .code ⌝ }
+{
+    a.code
+}
+
+fn track_velocity_value(a: TrackVelocity) -> i64
+    ensures { λ r. ⌜ r ≡ a .value ⌝ }
+{
+    a.value
+}
+
+fn track_velocity_track(a: TrackVelocity) -> Track
+    ensures { λ r. ⌜ r ≡ a .track ⌝ }
+{
+    a.track
+}
+
+fn track_velocity_code(a: TrackVelocity) -> u32
+    ensures { λ r. ⌜ r ≡ a .code ⌝ }
+{
+    a.code
+}
+
+fn size_bytes(a: Size) -> usize
+    ensures { λ r. ⌜ r ≡ a .bytes ⌝ }
+{
+    a.bytes
+}
+
+fn size_code(a: Size) -> u32
+    ensures { λ r. ⌜ r ≡ a .code ⌝ }
+{
+    a.code
+}
+
+fn param_answer_param(a: ParamAnswer) -> NoteParam
+    ensures { λ r. ⌜ r ≡ a .param ⌝ }
+{
+    a.param
+}
+
+fn param_answer_code(a: ParamAnswer) -> u32
+    ensures { λ r. ⌜ r ≡ a .code ⌝ }
+{
+    a.code
+}
+
+fn told_value(a: Told) -> i32
+    ensures { λ r. ⌜ r ≡ a .value ⌝ }
+{
+    a.value
+}
+
+fn told_code(a: Told) -> u32
+    ensures { λ r. ⌜ r ≡ a .code ⌝ }
+{
+    a.code
+}
+
+fn param_value_value(a: ParamValue) -> i32
+    ensures { λ r. ⌜ r ≡ a .value ⌝ }
+{
+    a.value
+}
+
+fn param_value_param(a: ParamValue) -> NoteParam
+    ensures { λ r. ⌜ r ≡ a .param ⌝ }
+{
+    a.param
+}
+
+fn param_value_code(a: ParamValue) -> u32
+    ensures { λ r. ⌜ r ≡ a .code ⌝ }
+{
+    a.code
+}
+
+fn layers_answer_layers(a: LayersAnswer) -> Layers
+    ensures { λ r. ⌜ r ≡ a .layers ⌝ }
+{
+    a.layers
+}
+
+fn layers_answer_code(a: LayersAnswer) -> u32
+    ensures { λ r. ⌜ r ≡ a .code ⌝ }
+{
+    a.code
+}
+
+fn velocity_value(a: Velocity) -> i64
+    ensures { λ r. ⌜ r ≡ a .value ⌝ }
+{
+    a.value
+}
+
+fn velocity_layers(a: Velocity) -> Layers
+    ensures { λ r. ⌜ r ≡ a .layers ⌝ }
+{
+    a.layers
+}
+
+fn velocity_code(a: Velocity) -> u32
+    ensures { λ r. ⌜ r ≡ a .code ⌝ }
+{
+    a.code
+}
+
 // What the setters of a controller or a bend hand to those of a target: a wave as it is, and the code of the bends.
 fn as_it_is() -> u32
     ensures { λ r. ⌜ r ≡ normal ⌝ }
@@ -129,6 +274,32 @@ fn bend() -> i32
     ensures { λ r. ⌜ r ≡ pos 129 ⌝ }
 {
     129
+}
+
+// ---- a new track, a budget, an empty cycle record
+// A track at time 0 with nothing set; the channel is clamped to 0..15. Refuses 4, and then hands back a track of
+// timebase 0, which no call takes.
+#[no_mangle]
+pub extern "C" fn dollavir_track_new(timebase: i32, channel: i32) -> TrackAnswer
+    ensures { λ r. ⌜ r ≡ newOf timebase channel ⌝ }
+{
+    Track::new(timebase, channel)
+}
+
+// Nothing used yet, the flag clear.
+#[no_mangle]
+pub extern "C" fn dollavir_budget_new(seed: u32, maximum: u32) -> Budget
+    ensures { λ r. ⌜ r ≡ unspent seed maximum ⌝ }
+{
+    Budget::new(seed, maximum)
+}
+
+// What an unused place of a table of cycles holds.
+#[no_mangle]
+pub extern "C" fn dollavir_cycle_none() -> Cycle
+    ensures { λ r. ⌜ r ≡ noCycle ⌝ }
+{
+    tables::no_cycle()
 }
 
 // ---- the track's own numbers
@@ -607,4 +778,782 @@ pub extern "C" fn dollavir_current_cc_value(
     let r = track::current_cc_value(*track, number, events, count, store);
     *value = cc_value_value(r);
     cc_value_code(r)
+}
+
+// ---- the event list
+// Takes out the bends from `start` to `end`, that time included. Answers the new count; the others keep their order,
+// and the places that fall vacant are zeroed. Refuses 1, 4; then the list is left as it is.
+#[no_mangle]
+pub extern "C" fn dollavir_remove_pitch_bend_in_range(
+    events: &mut [i64],
+    count: &mut usize,
+    start: i64,
+    end: i64,
+    store: &[u8],
+) -> u32
+    ensures { λ r. ⌜ ListLeft (bendsTaken (length (now (store .entry))) (now (events .entry)) (now (count .entry)) start end)
+        (bendsLeft (length (now (store .entry))) (now (events .entry)) (now (count .entry)) start end)
+        r (now (count .exit)) (now (events .exit)) ⌝ }
+{
+    let r = eventlist::remove_pitch_bend_in_range(events, *count, start, end, store);
+    *count = r.count;
+    r.code
+}
+
+// Sorts the list by time; events of one time keep their order. Answers 0, or refuses 1, 4; then the list is left as
+// it is.
+#[no_mangle]
+pub extern "C" fn dollavir_events_sort(events: &mut [i64], count: usize, store: &[u8]) -> u32
+    ensures { λ r. ⌜ (r ≡ sortRefusal (length (now (store .entry))) (now (events .entry)) count) × (now (events .exit) ≡ sortLeft (length (now (store .entry))) (now (events .entry)) count) ⌝ }
+{
+    sorting::events_sort(events, count, store)
+}
+
+// Puts the list's events at the front of `out`, after each note its end, and answers how many they are. Beyond them
+// `out` is left as it is. Refuses 1, 4, 7; then all of `out` is left as it is.
+#[no_mangle]
+pub extern "C" fn dollavir_split_note_off(
+    events: &[i64],
+    count: usize,
+    out: &mut [i64],
+    store: &[u8],
+    out_count: &mut usize,
+) -> u32
+    ensures { λ r. ⌜ ListLeft (splitTaken (length (now (store .entry))) (now (events .entry)) count (now (out .entry)))
+        (splitLeft (length (now (store .entry))) (now (events .entry)) count (now (out .entry)) 0)
+        r (now («out_count» .exit)) (now (out .exit)) ⌝ }
+{
+    let r = notes::split_note_off(events, count, out, store);
+    *out_count = r.count;
+    r.code
+}
+
+// Puts after each note of the list its end, and answers the new count. Refuses 1, 4, 7; then the list is left as it
+// is.
+#[no_mangle]
+pub extern "C" fn dollavir_normalize(events: &mut [i64], count: &mut usize, store: &[u8]) -> u32
+    ensures { λ r. ⌜ ListLeft (splitTaken (length (now (store .entry))) (now (events .entry)) (now (count .entry)) (now (events .entry)))
+        (splitLeft (length (now (store .entry))) (now (events .entry)) (now (count .entry)) (now (events .entry)) (now (count .entry)))
+        r (now (count .exit)) (now (events .exit)) ⌝ }
+{
+    let r = notes::normalize(events, *count, store);
+    *count = r.count;
+    r.code
+}
+
+// Cuts off what is before `cut`: the events that are kept count their time from it, and after them stand, at time 0,
+// the controllers and the program as they were. Answers the new count; the places that fall vacant are zeroed.
+// Refuses 1, 4; then the list is left as it is.
+#[no_mangle]
+pub extern "C" fn dollavir_play_from(
+    events: &mut [i64],
+    count: &mut usize,
+    cut: i64,
+    store: &[u8],
+) -> u32
+    ensures { λ r. ⌜ ListLeft (cutTaken (length (now (store .entry))) (now (events .entry)) (now (count .entry)) (plain cut))
+        (cutLeft (length (now (store .entry))) (now (events .entry)) (now (count .entry)) (plain cut))
+        r (now (count .exit)) (now (events .exit)) ⌝ }
+{
+    let r = cutting::play_from(events, *count, cut, store);
+    *count = r.count;
+    r.code
+}
+
+// The same with the bends: those from `cut` on are kept, and the last before it is folded. What is folded stands
+// first.
+#[no_mangle]
+pub extern "C" fn dollavir_full_cut(
+    events: &mut [i64],
+    count: &mut usize,
+    cut: i64,
+    store: &[u8],
+) -> u32
+    ensures { λ r. ⌜ ListLeft (cutTaken (length (now (store .entry))) (now (events .entry)) (now (count .entry)) (whole cut))
+        (cutLeft (length (now (store .entry))) (now (events .entry)) (now (count .entry)) (whole cut))
+        r (now (count .exit)) (now (events .exit)) ⌝ }
+{
+    let r = cutting::full_cut(events, *count, cut, store);
+    *count = r.count;
+    r.code
+}
+
+// ---- the track's parameters and layers
+// A note's velocity at the track's time, of the curve or cycle that is reserved, or the default; a curve that is over
+// goes. Leaves it in `value`. Refuses 4.
+#[no_mangle]
+pub extern "C" fn dollavir_calc_v_on_time(track: &mut Track, def: i32, value: &mut i32) -> u32
+    ensures { λ r. ⌜ ValueLeft (valueOnTime velocity (now (track .entry)) def) r (now (value .exit)) (now (track .exit)) ⌝ }
+{
+    let r = playing::calc_v_on_time(*track, def);
+    *value = track_value_value(r);
+    *track = track_value_track(r);
+    track_value_code(r)
+}
+
+// The same of a note's timing. Leaves it in `value`. Refuses 4.
+#[no_mangle]
+pub extern "C" fn dollavir_calc_t_on_time(track: &mut Track, def: i32, value: &mut i32) -> u32
+    ensures { λ r. ⌜ ValueLeft (valueOnTime timing (now (track .entry)) def) r (now (value .exit)) (now (track .exit)) ⌝ }
+{
+    let r = playing::calc_t_on_time(*track, def);
+    *value = track_value_value(r);
+    *track = track_value_track(r);
+    track_value_code(r)
+}
+
+// The same of a note's gate. Leaves it in `value`. Refuses 4.
+#[no_mangle]
+pub extern "C" fn dollavir_calc_qlen_on_time(track: &mut Track, def: i32, value: &mut i32) -> u32
+    ensures { λ r. ⌜ ValueLeft (valueOnTime gate (now (track .entry)) def) r (now (value .exit)) (now (track .exit)) ⌝ }
+{
+    let r = playing::calc_qlen_on_time(*track, def);
+    *value = track_value_value(r);
+    *track = track_value_track(r);
+    track_value_code(r)
+}
+
+// The same of a note's octave. Leaves it in `value`. Refuses 4.
+#[no_mangle]
+pub extern "C" fn dollavir_calc_o_on_time(track: &mut Track, def: i32, value: &mut i32) -> u32
+    ensures { λ r. ⌜ ValueLeft (valueOnTime octave (now (track .entry)) def) r (now (value .exit)) (now (track .exit)) ⌝ }
+{
+    let r = playing::calc_o_on_time(*track, def);
+    *value = track_value_value(r);
+    *track = track_value_track(r);
+    track_value_code(r)
+}
+
+// The same of a note's length. Leaves it in `value`. Refuses 4.
+#[no_mangle]
+pub extern "C" fn dollavir_calc_l_on_time(track: &mut Track, def: i32, value: &mut i32) -> u32
+    ensures { λ r. ⌜ ValueLeft (valueOnTime span (now (track .entry)) def) r (now (value .exit)) (now (track .exit)) ⌝ }
+{
+    let r = playing::calc_l_on_time(*track, def);
+    *value = track_value_value(r);
+    *track = track_value_track(r);
+    track_value_code(r)
+}
+
+// A note's velocity, the next of the list that is reserved, or the default; a list that is spent goes. While the list
+// is there, the value is the track's velocity too. Leaves it in `value`. Refuses 4.
+#[no_mangle]
+pub extern "C" fn dollavir_calc_v_on_note(track: &mut Track, def: i32, value: &mut i32) -> u32
+    ensures { λ r. ⌜ ValueLeft (valueOnNote velocity (now (track .entry)) def) r (now (value .exit)) (now (track .exit)) ⌝ }
+{
+    let r = playing::calc_v_on_note(*track, def);
+    *value = track_value_value(r);
+    *track = track_value_track(r);
+    track_value_code(r)
+}
+
+// The same of a note's timing. Leaves it in `value`. Refuses 4.
+#[no_mangle]
+pub extern "C" fn dollavir_calc_t_on_note(track: &mut Track, def: i32, value: &mut i32) -> u32
+    ensures { λ r. ⌜ ValueLeft (valueOnNote timing (now (track .entry)) def) r (now (value .exit)) (now (track .exit)) ⌝ }
+{
+    let r = playing::calc_t_on_note(*track, def);
+    *value = track_value_value(r);
+    *track = track_value_track(r);
+    track_value_code(r)
+}
+
+// The same of a note's gate, which is no longer one in steps then. Leaves it in `value`. Refuses 4.
+#[no_mangle]
+pub extern "C" fn dollavir_calc_qlen_on_note(track: &mut Track, def: i32, value: &mut i32) -> u32
+    ensures { λ r. ⌜ ValueLeft (valueOnNote gate (now (track .entry)) def) r (now (value .exit)) (now (track .exit)) ⌝ }
+{
+    let r = playing::calc_qlen_on_note(*track, def);
+    *value = track_value_value(r);
+    *track = track_value_track(r);
+    track_value_code(r)
+}
+
+// The same of a note's octave. Leaves it in `value`. Refuses 4.
+#[no_mangle]
+pub extern "C" fn dollavir_calc_o_on_note(track: &mut Track, def: i32, value: &mut i32) -> u32
+    ensures { λ r. ⌜ ValueLeft (valueOnNote octave (now (track .entry)) def) r (now (value .exit)) (now (track .exit)) ⌝ }
+{
+    let r = playing::calc_o_on_note(*track, def);
+    *value = track_value_value(r);
+    *track = track_value_track(r);
+    track_value_code(r)
+}
+
+// The same of a note's length, which the track does not keep. Leaves it in `value`. Refuses 4.
+#[no_mangle]
+pub extern "C" fn dollavir_calc_l_on_note(track: &mut Track, def: i32, value: &mut i32) -> u32
+    ensures { λ r. ⌜ ValueLeft (valueOnNote span (now (track .entry)) def) r (now (value .exit)) (now (track .exit)) ⌝ }
+{
+    let r = playing::calc_l_on_note(*track, def);
+    *value = track_value_value(r);
+    *track = track_value_track(r);
+    track_value_code(r)
+}
+
+// A layer's value; nothing stays reserved for it. Refuses 4, 5.
+#[no_mangle]
+pub extern "C" fn dollavir_set_v_sub(track: &mut Track, index: usize, velocity: i32) -> u32
+    ensures { λ r. ⌜ TrackLeft (onLayers (now (track .entry)) (setVSub ((now (track .entry)) .layers) index velocity)) r (now (track .exit)) ⌝ }
+{
+    let r = playing::set_v_sub(*track, index, velocity);
+    *track = track_answer_track(r);
+    track_answer_code(r)
+}
+
+// A layer's random width. Refuses 4, 5.
+#[no_mangle]
+pub extern "C" fn dollavir_set_v_sub_random(track: &mut Track, index: usize, random: i32) -> u32
+    ensures { λ r. ⌜ TrackLeft (onLayers (now (track .entry)) (setVSubRandom ((now (track .entry)) .layers) index random)) r (now (track .exit)) ⌝ }
+{
+    let r = playing::set_v_sub_random(*track, index, random);
+    *track = track_answer_track(r);
+    track_answer_code(r)
+}
+
+// Reserves a curve for a layer, from the track's time and the velocity parameter's delay on. Refuses 3, 4, 5.
+#[no_mangle]
+pub extern "C" fn dollavir_set_v_sub_on_time(track: &mut Track, index: usize, values: &[i32]) -> u32
+    ensures { λ r. ⌜ TrackLeft (onLayers (now (track .entry)) (setVSubOnTime ((now (track .entry)) .layers) index ((now (track .entry)) .timepos) ((now (track .entry)) .v .delay) (now (values .entry))))
+        r (now (track .exit)) ⌝ }
+{
+    let r = playing::set_v_sub_on_time(*track, index, values);
+    *track = track_answer_track(r);
+    track_answer_code(r)
+}
+
+// Reserves a cycle for a layer, its length and then its values; nothing, where there is no value. Refuses 3, 4, 5.
+#[no_mangle]
+pub extern "C" fn dollavir_set_v_sub_on_cycle(track: &mut Track, index: usize, args: &[i32]) -> u32
+    ensures { λ r. ⌜ TrackLeft (onLayers (now (track .entry)) (setVSubOnCycle ((now (track .entry)) .layers) index ((now (track .entry)) .timepos) ((now (track .entry)) .v .delay) (now (args .entry))))
+        r (now (track .exit)) ⌝ }
+{
+    let r = playing::set_v_sub_on_cycle(*track, index, args);
+    *track = track_answer_track(r);
+    track_answer_code(r)
+}
+
+// Reserves a value of a layer for each of the next notes, round and round where the velocity parameter's repeat
+// stands. Refuses 3, 4, 5.
+#[no_mangle]
+pub extern "C" fn dollavir_set_v_sub_on_note(track: &mut Track, index: usize, values: &[i32]) -> u32
+    ensures { λ r. ⌜ TrackLeft (onLayers (now (track .entry)) (setVSubOnNote ((now (track .entry)) .layers) index ((now (track .entry)) .v .repeat) (now (values .entry))))
+        r (now (track .exit)) ⌝ }
+{
+    let r = playing::set_v_sub_on_note(*track, index, values);
+    *track = track_answer_track(r);
+    track_answer_code(r)
+}
+
+// A note's velocity at the track's time: the given one and what every layer adds to it. The layers come back
+// advanced. Leaves it in `value`. Refuses 4.
+#[no_mangle]
+pub extern "C" fn dollavir_apply_v_sub(track: &mut Track, velocity: i32, value: &mut i64) -> u32
+    ensures { λ r. ⌜ VelocityLeft (summedUp (now (track .entry)) (applyVSub ((now (track .entry)) .layers) ((now (track .entry)) .timepos) velocity))
+        r (now (value .exit)) (now (track .exit)) ⌝ }
+{
+    let r = playing::apply_v_sub(*track, velocity);
+    *value = track_velocity_value(r);
+    *track = track_velocity_track(r);
+    track_velocity_code(r)
+}
+
+// The setters of a parameter, `which` by its number; any other number refuses 4. Reserves a curve, low, high and
+// length by threes, from the track's time and the parameter's delay on. Refuses 3, 4.
+#[no_mangle]
+pub extern "C" fn dollavir_set_param_on_time(track: &mut Track, which: u32, values: &[i32]) -> u32
+    ensures { λ r. ⌜ TrackLeft (onParam which (now (track .entry)) (setOnTime (paramOf which (now (track .entry))) ((now (track .entry)) .timepos) (now (values .entry))))
+        r (now (track .exit)) ⌝ }
+{
+    let r = playing::set_param_on_time(*track, which, values);
+    *track = track_answer_track(r);
+    track_answer_code(r)
+}
+
+// Reserves a cycle, its length and then its values, from there on; nothing, where there is no value. Refuses 3, 4.
+#[no_mangle]
+pub extern "C" fn dollavir_set_param_on_cycle(track: &mut Track, which: u32, args: &[i32]) -> u32
+    ensures { λ r. ⌜ TrackLeft (onParam which (now (track .entry)) (paramsSetOnCycle (paramOf which (now (track .entry))) ((now (track .entry)) .timepos) (now (args .entry))))
+        r (now (track .exit)) ⌝ }
+{
+    let r = playing::set_param_on_cycle(*track, which, args);
+    *track = track_answer_track(r);
+    track_answer_code(r)
+}
+
+// Reserves a value for each of the next notes, round and round where repeat stands. Refuses 3, 4.
+#[no_mangle]
+pub extern "C" fn dollavir_set_param_on_note(track: &mut Track, which: u32, values: &[i32]) -> u32
+    ensures { λ r. ⌜ TrackLeft (onParam which (now (track .entry)) (paramsSetOnNote (paramOf which (now (track .entry))) (now (values .entry)))) r (now (track .exit)) ⌝ }
+{
+    let r = playing::set_param_on_note(*track, which, values);
+    *track = track_answer_track(r);
+    track_answer_code(r)
+}
+
+// Nothing stays reserved. Refuses 4.
+#[no_mangle]
+pub extern "C" fn dollavir_clear_param_reserve(track: &mut Track, which: u32) -> u32
+    ensures { λ r. ⌜ TrackLeft (onParam which (now (track .entry)) (clearReserve (paramOf which (now (track .entry))))) r (now (track .exit)) ⌝ }
+{
+    let r = playing::clear_param_reserve(*track, which);
+    *track = track_answer_track(r);
+    track_answer_code(r)
+}
+
+// The random width of a value. Refuses 4.
+#[no_mangle]
+pub extern "C" fn dollavir_set_param_random(track: &mut Track, which: u32, random: i32) -> u32
+    ensures { λ r. ⌜ TrackLeft (onParam which (now (track .entry)) (paramsSetRandom (paramOf which (now (track .entry))) random)) r (now (track .exit)) ⌝ }
+{
+    let r = playing::set_param_random(*track, which, random);
+    *track = track_answer_track(r);
+    track_answer_code(r)
+}
+
+// The range of a value. Refuses 4.
+#[no_mangle]
+pub extern "C" fn dollavir_set_param_range(
+    track: &mut Track,
+    which: u32,
+    low: i32,
+    high: i32,
+) -> u32
+    ensures { λ r. ⌜ TrackLeft (onParam which (now (track .entry)) (paramsSetRange (paramOf which (now (track .entry))) low high)) r (now (track .exit)) ⌝ }
+{
+    let r = playing::set_param_range(*track, which, low, high);
+    *track = track_answer_track(r);
+    track_answer_code(r)
+}
+
+// No range. Refuses 4.
+#[no_mangle]
+pub extern "C" fn dollavir_clear_param_range(track: &mut Track, which: u32) -> u32
+    ensures { λ r. ⌜ TrackLeft (onParam which (now (track .entry)) (paramsClearRange (paramOf which (now (track .entry))))) r (now (track .exit)) ⌝ }
+{
+    let r = playing::clear_param_range(*track, which);
+    *track = track_answer_track(r);
+    track_answer_code(r)
+}
+
+// The delay of what is reserved from now on. Refuses 4.
+#[no_mangle]
+pub extern "C" fn dollavir_set_param_delay(track: &mut Track, which: u32, delay: i32) -> u32
+    ensures { λ r. ⌜ TrackLeft (onParam which (now (track .entry)) (paramsSetDelay (paramOf which (now (track .entry))) delay)) r (now (track .exit)) ⌝ }
+{
+    let r = playing::set_param_delay(*track, which, delay);
+    *track = track_answer_track(r);
+    track_answer_code(r)
+}
+
+// The maximum of a value. Refuses 4.
+#[no_mangle]
+pub extern "C" fn dollavir_set_param_max(track: &mut Track, which: u32, max: i32) -> u32
+    ensures { λ r. ⌜ TrackLeft (onParam which (now (track .entry)) (setMax (paramOf which (now (track .entry))) max)) r (now (track .exit)) ⌝ }
+{
+    let r = playing::set_param_max(*track, which, max);
+    *track = track_answer_track(r);
+    track_answer_code(r)
+}
+
+// No maximum. Refuses 4.
+#[no_mangle]
+pub extern "C" fn dollavir_clear_param_max(track: &mut Track, which: u32) -> u32
+    ensures { λ r. ⌜ TrackLeft (onParam which (now (track .entry)) (clearMax (paramOf which (now (track .entry))))) r (now (track .exit)) ⌝ }
+{
+    let r = playing::clear_param_max(*track, which);
+    *track = track_answer_track(r);
+    track_answer_code(r)
+}
+
+// Whether a list that is reserved from now on goes round: 0 or 1. Refuses 4.
+#[no_mangle]
+pub extern "C" fn dollavir_set_param_repeat(track: &mut Track, which: u32, repeat: u32) -> u32
+    ensures { λ r. ⌜ TrackLeft (onParam which (now (track .entry)) (paramsSetRepeat (paramOf which (now (track .entry))) repeat)) r (now (track .exit)) ⌝ }
+{
+    let r = playing::set_param_repeat(*track, which, repeat);
+    *track = track_answer_track(r);
+    track_answer_code(r)
+}
+
+// ---- events
+// A note of a length and a velocity. Refuses 4.
+#[no_mangle]
+pub extern "C" fn dollavir_event_note(
+    time: i64,
+    channel: i64,
+    number: i64,
+    len: i64,
+    vel: i64,
+) -> Made
+    ensures { λ r. ⌜ r ≡ made 0 (noteEvent time channel number len vel) ⌝ }
+{
+    Event::note(time, channel, number, len, vel)
+}
+
+// A program. Refuses 4.
+#[no_mangle]
+pub extern "C" fn dollavir_event_voice(time: i64, channel: i64, value: i64) -> Made
+    ensures { λ r. ⌜ r ≡ made 0 (voiceEvent time channel value) ⌝ }
+{
+    Event::voice(time, channel, value)
+}
+
+// A controller's value. Refuses 2 a number that is no controller's, then 4.
+#[no_mangle]
+pub extern "C" fn dollavir_event_cc(time: i64, channel: i64, number: i64, value: i64) -> Made
+    ensures { λ r. ⌜ r ≡ madeCc time channel number value ⌝ }
+{
+    Event::cc(time, channel, number, value)
+}
+
+// A bend. Refuses 4.
+#[no_mangle]
+pub extern "C" fn dollavir_event_pitch_bend(time: i64, channel: i64, value: i64) -> Made
+    ensures { λ r. ⌜ r ≡ made 0 (pitchBendEvent time channel value) ⌝ }
+{
+    Event::pitch_bend(time, channel, value)
+}
+
+// A bend's range. Refuses 4.
+#[no_mangle]
+pub extern "C" fn dollavir_event_pitch_bend_range(time: i64, channel: i64, value: i64) -> Made
+    ensures { λ r. ⌜ r ≡ made 0 (pitchBendRangeEvent time channel value) ⌝ }
+{
+    Event::pitch_bend_range(time, channel, value)
+}
+
+// A meta event, its data the `len` bytes of `store` from `offset` on. Refuses 4.
+#[no_mangle]
+pub extern "C" fn dollavir_event_meta(
+    time: i64,
+    v1: i64,
+    v2: i64,
+    v3: i64,
+    offset: i64,
+    len: i64,
+    store: &[u8],
+) -> Made
+    ensures { λ r. ⌜ r ≡ made (length (now (store .entry))) (metaEvent time v1 v2 v3 offset len) ⌝ }
+{
+    Event::meta(time, v1, v2, v3, offset, len, store)
+}
+
+// Bytes of `store` that are written as they stand. Refuses 4.
+#[no_mangle]
+pub extern "C" fn dollavir_event_direct_smf(time: i64, offset: i64, len: i64, store: &[u8]) -> Made
+    ensures { λ r. ⌜ r ≡ made (length (now (store .entry))) (directSmfEvent time offset len) ⌝ }
+{
+    Event::direct_smf(time, offset, len, store)
+}
+
+// A system exclusive message of bytes of `store`. Refuses 4.
+#[no_mangle]
+pub extern "C" fn dollavir_event_sysex_raw(time: i64, offset: i64, len: i64, store: &[u8]) -> Made
+    ensures { λ r. ⌜ r ≡ made (length (now (store .entry))) (sysexEvent time offset len) ⌝ }
+{
+    Event::sysex_raw(time, offset, len, store)
+}
+
+// The bytes that an event counts in the budget. Refuses 4 an event that may not be stored beside `store`.
+#[no_mangle]
+pub extern "C" fn dollavir_event_bytes(event: &Event, store: &[u8], bytes: &mut usize) -> u32
+    ensures { λ r. ⌜ SizeTold (sizeOf (length (now (store .entry))) (now (event .entry))) r (now (bytes .exit)) ⌝ }
+{
+    let r = Event::estimated_midi_bytes(*event, store);
+    *bytes = size_bytes(r);
+    size_code(r)
+}
+
+// ---- a note parameter of its own
+// Nothing reserved, no option set.
+#[no_mangle]
+pub extern "C" fn dollavir_param_new() -> NoteParam
+    ensures { λ r. ⌜ r ≡ fresh ⌝ }
+{
+    NoteParam::new()
+}
+
+// Nothing stays reserved. Refuses 4.
+#[no_mangle]
+pub extern "C" fn dollavir_param_clear_reserve(param: &mut NoteParam) -> u32
+    ensures { λ r. ⌜ ParamLeft (clearReserve (now (param .entry))) r (now (param .exit)) ⌝ }
+{
+    let r = NoteParam::clear_reserve(*param);
+    *param = param_answer_param(r);
+    param_answer_code(r)
+}
+
+// 1 where something is reserved, else 0. Leaves it in `value`. Refuses 4.
+#[no_mangle]
+pub extern "C" fn dollavir_param_has_reserve(param: &NoteParam, value: &mut i32) -> u32
+    ensures { λ r. ⌜ ParamTold (hasReserve (now (param .entry))) r (now (value .exit)) ⌝ }
+{
+    let r = NoteParam::has_reserve(*param);
+    *value = told_value(r);
+    told_code(r)
+}
+
+// Reserves a curve, low, high and length by threes, from `timepos` and the delay on. Refuses 3, 4.
+#[no_mangle]
+pub extern "C" fn dollavir_param_set_on_time(
+    param: &mut NoteParam,
+    timepos: i64,
+    values: &[i32],
+) -> u32
+    ensures { λ r. ⌜ ParamLeft (setOnTime (now (param .entry)) timepos (now (values .entry))) r (now (param .exit)) ⌝ }
+{
+    let r = NoteParam::set_on_time(*param, timepos, values);
+    *param = param_answer_param(r);
+    param_answer_code(r)
+}
+
+// Reserves a cycle, its length and then its values, from `timepos` and the delay on; nothing, where there is no
+// value. Refuses 3, 4.
+#[no_mangle]
+pub extern "C" fn dollavir_param_set_on_cycle(
+    param: &mut NoteParam,
+    timepos: i64,
+    args: &[i32],
+) -> u32
+    ensures { λ r. ⌜ ParamLeft (paramsSetOnCycle (now (param .entry)) timepos (now (args .entry))) r (now (param .exit)) ⌝ }
+{
+    let r = NoteParam::set_on_cycle(*param, timepos, args);
+    *param = param_answer_param(r);
+    param_answer_code(r)
+}
+
+// Reserves a value for each of the next notes, round and round where repeat stands. Refuses 3, 4.
+#[no_mangle]
+pub extern "C" fn dollavir_param_set_on_note(param: &mut NoteParam, values: &[i32]) -> u32
+    ensures { λ r. ⌜ ParamLeft (paramsSetOnNote (now (param .entry)) (now (values .entry))) r (now (param .exit)) ⌝ }
+{
+    let r = NoteParam::set_on_note(*param, values);
+    *param = param_answer_param(r);
+    param_answer_code(r)
+}
+
+// The value of the reserved curve or cycle at `timepos`, or the default; a curve that is over goes. Leaves it in
+// `value`. Refuses 4.
+#[no_mangle]
+pub extern "C" fn dollavir_param_calc_on_time(
+    param: &mut NoteParam,
+    timepos: i64,
+    def: i32,
+    value: &mut i32,
+) -> u32
+    ensures { λ r. ⌜ ParamTaken (calcOnTime (now (param .entry)) timepos def) r (now (value .exit)) (now (param .exit)) ⌝ }
+{
+    let r = NoteParam::calc_on_time(*param, timepos, def);
+    *value = param_value_value(r);
+    *param = param_value_param(r);
+    param_value_code(r)
+}
+
+// The next value of the reserved list, or the default; a list that is spent goes. Leaves it in `value`. Refuses 4.
+#[no_mangle]
+pub extern "C" fn dollavir_param_calc_on_note(
+    param: &mut NoteParam,
+    def: i32,
+    value: &mut i32,
+) -> u32
+    ensures { λ r. ⌜ ParamTaken (calcOnNote (now (param .entry)) def) r (now (value .exit)) (now (param .exit)) ⌝ }
+{
+    let r = NoteParam::calc_on_note(*param, def);
+    *value = param_value_value(r);
+    *param = param_value_param(r);
+    param_value_code(r)
+}
+
+// A value limited by the range and then by the maximum, where there is one. Leaves it in `limited`. Refuses 4.
+#[no_mangle]
+pub extern "C" fn dollavir_param_apply_limit(
+    param: &NoteParam,
+    value: i32,
+    limited: &mut i32,
+) -> u32
+    ensures { λ r. ⌜ ParamTold (applyLimit (now (param .entry)) value) r (now (limited .exit)) ⌝ }
+{
+    let r = NoteParam::apply_limit(*param, value);
+    *limited = told_value(r);
+    told_code(r)
+}
+
+// The maximum, or the default where there is none. Leaves it in `value`. Refuses 4.
+#[no_mangle]
+pub extern "C" fn dollavir_param_max_or(param: &NoteParam, def: i32, value: &mut i32) -> u32
+    ensures { λ r. ⌜ ParamTold (maximumOr (now (param .entry)) def) r (now (value .exit)) ⌝ }
+{
+    let r = NoteParam::max_or(*param, def);
+    *value = told_value(r);
+    told_code(r)
+}
+
+// The random width of a value. Refuses 4.
+#[no_mangle]
+pub extern "C" fn dollavir_param_set_random(param: &mut NoteParam, random: i32) -> u32
+    ensures { λ r. ⌜ ParamLeft (paramsSetRandom (now (param .entry)) random) r (now (param .exit)) ⌝ }
+{
+    let r = NoteParam::set_random(*param, random);
+    *param = param_answer_param(r);
+    param_answer_code(r)
+}
+
+// The range of a value. Refuses 4.
+#[no_mangle]
+pub extern "C" fn dollavir_param_set_range(param: &mut NoteParam, low: i32, high: i32) -> u32
+    ensures { λ r. ⌜ ParamLeft (paramsSetRange (now (param .entry)) low high) r (now (param .exit)) ⌝ }
+{
+    let r = NoteParam::set_range(*param, low, high);
+    *param = param_answer_param(r);
+    param_answer_code(r)
+}
+
+// No range. Refuses 4.
+#[no_mangle]
+pub extern "C" fn dollavir_param_clear_range(param: &mut NoteParam) -> u32
+    ensures { λ r. ⌜ ParamLeft (paramsClearRange (now (param .entry))) r (now (param .exit)) ⌝ }
+{
+    let r = NoteParam::clear_range(*param);
+    *param = param_answer_param(r);
+    param_answer_code(r)
+}
+
+// The delay of what is reserved from now on. Refuses 4.
+#[no_mangle]
+pub extern "C" fn dollavir_param_set_delay(param: &mut NoteParam, delay: i32) -> u32
+    ensures { λ r. ⌜ ParamLeft (paramsSetDelay (now (param .entry)) delay) r (now (param .exit)) ⌝ }
+{
+    let r = NoteParam::set_delay(*param, delay);
+    *param = param_answer_param(r);
+    param_answer_code(r)
+}
+
+// The maximum of a value. Refuses 4.
+#[no_mangle]
+pub extern "C" fn dollavir_param_set_max(param: &mut NoteParam, max: i32) -> u32
+    ensures { λ r. ⌜ ParamLeft (setMax (now (param .entry)) max) r (now (param .exit)) ⌝ }
+{
+    let r = NoteParam::set_max(*param, max);
+    *param = param_answer_param(r);
+    param_answer_code(r)
+}
+
+// No maximum. Refuses 4.
+#[no_mangle]
+pub extern "C" fn dollavir_param_clear_max(param: &mut NoteParam) -> u32
+    ensures { λ r. ⌜ ParamLeft (clearMax (now (param .entry))) r (now (param .exit)) ⌝ }
+{
+    let r = NoteParam::clear_max(*param);
+    *param = param_answer_param(r);
+    param_answer_code(r)
+}
+
+// Whether a list that is reserved from now on goes round: 0 or 1. Refuses 4.
+#[no_mangle]
+pub extern "C" fn dollavir_param_set_repeat(param: &mut NoteParam, repeat: u32) -> u32
+    ensures { λ r. ⌜ ParamLeft (paramsSetRepeat (now (param .entry)) repeat) r (now (param .exit)) ⌝ }
+{
+    let r = NoteParam::set_repeat(*param, repeat);
+    *param = param_answer_param(r);
+    param_answer_code(r)
+}
+
+// ---- velocity layers of their own
+// One layer, with nothing set.
+#[no_mangle]
+pub extern "C" fn dollavir_layers_new() -> Layers
+    ensures { λ r. ⌜ r ≡ oneLayer ⌝ }
+{
+    Layers::new()
+}
+
+// A layer's value; nothing stays reserved for it. Refuses 4, 5.
+#[no_mangle]
+pub extern "C" fn dollavir_layers_set_v_sub(layers: &mut Layers, index: usize, velocity: i32) -> u32
+    ensures { λ r. ⌜ LayersLeft (setVSub (now (layers .entry)) index velocity) r (now (layers .exit)) ⌝ }
+{
+    let r = Layers::set_v_sub(*layers, index, velocity);
+    *layers = layers_answer_layers(r);
+    layers_answer_code(r)
+}
+
+// A layer's random width. Refuses 4, 5.
+#[no_mangle]
+pub extern "C" fn dollavir_layers_set_v_sub_random(
+    layers: &mut Layers,
+    index: usize,
+    random: i32,
+) -> u32
+    ensures { λ r. ⌜ LayersLeft (setVSubRandom (now (layers .entry)) index random) r (now (layers .exit)) ⌝ }
+{
+    let r = Layers::set_v_sub_random(*layers, index, random);
+    *layers = layers_answer_layers(r);
+    layers_answer_code(r)
+}
+
+// Reserves a curve for a layer, from `timepos` and the velocity parameter's delay on. Refuses 3, 4, 5.
+#[no_mangle]
+pub extern "C" fn dollavir_layers_set_v_sub_on_time(
+    layers: &mut Layers,
+    index: usize,
+    timepos: i64,
+    delay: i32,
+    values: &[i32],
+) -> u32
+    ensures { λ r. ⌜ LayersLeft (setVSubOnTime (now (layers .entry)) index timepos delay (now (values .entry))) r (now (layers .exit)) ⌝ }
+{
+    let r = Layers::set_v_sub_on_time(*layers, index, timepos, delay, values);
+    *layers = layers_answer_layers(r);
+    layers_answer_code(r)
+}
+
+// Reserves a cycle for a layer, its length and then its values, from `timepos` and the velocity parameter's delay on;
+// nothing, where there is no value. Refuses 3, 4, 5.
+#[no_mangle]
+pub extern "C" fn dollavir_layers_set_v_sub_on_cycle(
+    layers: &mut Layers,
+    index: usize,
+    timepos: i64,
+    delay: i32,
+    args: &[i32],
+) -> u32
+    ensures { λ r. ⌜ LayersLeft (setVSubOnCycle (now (layers .entry)) index timepos delay (now (args .entry))) r (now (layers .exit)) ⌝ }
+{
+    let r = Layers::set_v_sub_on_cycle(*layers, index, timepos, delay, args);
+    *layers = layers_answer_layers(r);
+    layers_answer_code(r)
+}
+
+// Reserves a value of a layer for each of the next notes, round and round where the velocity parameter's repeat
+// stands. Refuses 3, 4, 5.
+#[no_mangle]
+pub extern "C" fn dollavir_layers_set_v_sub_on_note(
+    layers: &mut Layers,
+    index: usize,
+    repeat: u32,
+    values: &[i32],
+) -> u32
+    ensures { λ r. ⌜ LayersLeft (setVSubOnNote (now (layers .entry)) index repeat (now (values .entry))) r (now (layers .exit)) ⌝ }
+{
+    let r = Layers::set_v_sub_on_note(*layers, index, repeat, values);
+    *layers = layers_answer_layers(r);
+    layers_answer_code(r)
+}
+
+// A note's velocity at `timepos`: the given one and what every layer adds to it. The layers come back advanced.
+// Leaves it in `value`. Refuses 4.
+#[no_mangle]
+pub extern "C" fn dollavir_layers_apply_v_sub(
+    layers: &mut Layers,
+    timepos: i64,
+    velocity: i32,
+    value: &mut i64,
+) -> u32
+    ensures { λ r. ⌜ LayersSum (applyVSub (now (layers .entry)) timepos velocity) r (now (value .exit)) (now (layers .exit)) ⌝ }
+{
+    let r = Layers::apply_v_sub(*layers, timepos, velocity);
+    *value = velocity_value(r);
+    *layers = velocity_layers(r);
+    velocity_code(r)
 }
