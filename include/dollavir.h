@@ -184,6 +184,13 @@ typedef struct {
     dollavir_event event;
 } dollavir_made;
 
+/* A value for every `length` steps from `start` on, round and round. */
+typedef struct {
+    int64_t start;
+    int32_t length;
+    dollavir_numbers values;
+} dollavir_on_cycle_time;
+
 #if defined(__STDC_VERSION__) && __STDC_VERSION__ >= 201112L
 _Static_assert(sizeof(size_t) == 8, "size_t");
 _Static_assert(sizeof(dollavir_numbers) == 392 && _Alignof(dollavir_numbers) == 8, "dollavir_numbers");
@@ -293,6 +300,10 @@ _Static_assert(offsetof(dollavir_event, len) == 56, "dollavir_event.len");
 _Static_assert(sizeof(dollavir_made) == 72 && _Alignof(dollavir_made) == 8, "dollavir_made");
 _Static_assert(offsetof(dollavir_made, code) == 0, "dollavir_made.code");
 _Static_assert(offsetof(dollavir_made, event) == 8, "dollavir_made.event");
+_Static_assert(sizeof(dollavir_on_cycle_time) == 408 && _Alignof(dollavir_on_cycle_time) == 8, "dollavir_on_cycle_time");
+_Static_assert(offsetof(dollavir_on_cycle_time, start) == 0, "dollavir_on_cycle_time.start");
+_Static_assert(offsetof(dollavir_on_cycle_time, length) == 8, "dollavir_on_cycle_time.length");
+_Static_assert(offsetof(dollavir_on_cycle_time, values) == 16, "dollavir_on_cycle_time.values");
 #endif
 
 /* A track at time 0 with nothing set; the channel is clamped to 0..15. Refuses 4, and then hands back a track of
@@ -673,6 +684,15 @@ uint32_t dollavir_layers_set_v_sub_on_note(dollavir_layers *layers, size_t index
    Leaves it in `value`. Refuses 4. */
 uint32_t dollavir_layers_apply_v_sub(dollavir_layers *layers, int64_t timepos, int32_t velocity, int64_t
     *value);
+
+/* The value of a cycle at `timepos`, and in `found` whether it has one: none before the start, and none of a
+   cycle without values or with a length of 0 or less. Leaves it in `value`. Refuses 4. */
+uint32_t dollavir_cycle_time_calc(const dollavir_on_cycle_time *cycle, int64_t timepos, uint32_t *found,
+    int32_t *value);
+
+/* The kind of a sine that a number names, as `write_sine` takes it: 1 and 2 the quarters up and down, any other
+   number the full turn, which is 0. Refuses nothing. */
+uint32_t dollavir_sine_type(int32_t v);
 
 #ifdef __cplusplus
 }

@@ -209,6 +209,15 @@ pub struct Made {
     pub event: Event,
 }
 
+// A value for every `length` steps from `start` on, round and round.
+#[repr(C)]
+#[derive(Clone, Copy, Debug, PartialEq, Eq)]
+pub struct OnCycleTime {
+    pub start: i64,
+    pub length: i32,
+    pub values: Numbers,
+}
+
 const _: () = assert!(core::mem::size_of::<usize>() == 8);
 const _: () = assert!(core::mem::size_of::<Numbers>() == 392 && core::mem::align_of::<Numbers>() == 8);
 const _: () = assert!(core::mem::offset_of!(Numbers, count) == 0);
@@ -317,6 +326,10 @@ const _: () = assert!(core::mem::offset_of!(Event, len) == 56);
 const _: () = assert!(core::mem::size_of::<Made>() == 72 && core::mem::align_of::<Made>() == 8);
 const _: () = assert!(core::mem::offset_of!(Made, code) == 0);
 const _: () = assert!(core::mem::offset_of!(Made, event) == 8);
+const _: () = assert!(core::mem::size_of::<OnCycleTime>() == 408 && core::mem::align_of::<OnCycleTime>() == 8);
+const _: () = assert!(core::mem::offset_of!(OnCycleTime, start) == 0);
+const _: () = assert!(core::mem::offset_of!(OnCycleTime, length) == 8);
+const _: () = assert!(core::mem::offset_of!(OnCycleTime, values) == 16);
 
 extern "C" {
     // A track at time 0 with nothing set; the channel is clamped to 0..15. Refuses 4, and then hands back a track
@@ -654,4 +667,12 @@ extern "C" {
     // A note's velocity at `timepos`: the given one and what every layer adds to it. The layers come back
     // advanced. Leaves it in `value`. Refuses 4.
     pub fn dollavir_layers_apply_v_sub(layers: *mut Layers, timepos: i64, velocity: i32, value: *mut i64) -> u32;
+
+    // The value of a cycle at `timepos`, and in `found` whether it has one: none before the start, and none of a
+    // cycle without values or with a length of 0 or less. Leaves it in `value`. Refuses 4.
+    pub fn dollavir_cycle_time_calc(cycle: *const OnCycleTime, timepos: i64, found: *mut u32, value: *mut i32) -> u32;
+
+    // The kind of a sine that a number names, as `write_sine` takes it: 1 and 2 the quarters up and down, any
+    // other number the full turn, which is 0. Refuses nothing.
+    pub fn dollavir_sine_type(v: i32) -> u32;
 }

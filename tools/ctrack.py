@@ -17,10 +17,10 @@ ANSWERS = {
     'OptionAnswer': ('drawing', 'OptionTold'), 'Outcome': ('writing', 'Written'), 'Noted': ('noting', 'NoteWritten'),
     'Kept': ('reserving', 'Reserved'), 'Cycled': ('cycling', 'CycleWritten'), 'CcValue': ('cutting', 'CcTold'), 'Taken': ('eventlist', 'ListLeft'),
     'ParamAnswer': ('params', 'ParamLeft'), 'ParamValue': ('params', 'ParamTaken'), 'Told': ('params', 'ParamTold'),
-    'LayersAnswer': ('layers', 'LayersLeft'), 'Velocity': ('layers', 'LayersSum'), 'Size': ('events', 'SizeTold'),
+    'LayersAnswer': ('layers', 'LayersLeft'), 'Velocity': ('layers', 'LayersSum'), 'Size': ('events', 'SizeTold'), 'CycleTold': ('ctrack', 'TimeTold'),
 }
 LISTED = ('Outcome', 'Noted', 'Cycled', 'Taken')
-LETTER = {'track': 't', 'value': 'v', 'budget': 'b', 'count': 'n', 'option': 'o', 'cycles': 'cs', 'param': 'p', 'layers': 'l', 'bytes': 'n'}
+LETTER = {'track': 't', 'value': 'v', 'budget': 'b', 'count': 'n', 'option': 'o', 'cycles': 'cs', 'param': 'p', 'layers': 'l', 'bytes': 'n', 'found': 'k'}
 SPOKEN = {
     'TrackLeft': 'a call that is defined to answer a: it answers the number r and leaves the track t',
     'ValueLeft': 'the same with the value v',
@@ -36,6 +36,7 @@ SPOKEN = {
     'ParamTaken': 'the same with the value v', 'ParamTold': 'a value alone',
     'LayersLeft': 'layers that are lent by themselves: the number r, the layers l',
     'LayersSum': 'the same with the velocity v', 'SizeTold': 'the bytes n of an event',
+    'TimeTold': 'a cycle over time: k is 1 where it has the value v, else 0',
 }
 
 # The calls that are exported, in the order of docs/API.md: `crate::function`, under the function's own name or the one after `as`.
@@ -61,10 +62,11 @@ TABLE = [
         'set_delay', 'set_max', 'clear_max', 'set_repeat'))),
     ('Velocity layers of their own', 'layers::Layers::new=layers_new ' + ' '.join(f'layers::Layers::{n}=layers_{n}' for n in (
         'set_v_sub', 'set_v_sub_random', 'set_v_sub_on_time', 'set_v_sub_on_cycle', 'set_v_sub_on_note', 'apply_v_sub'))),
+    ('A cycle over time of its own', 'ctrack::cycle_time_calc'),
 ]
 # The calls that are handed nothing by reference but slices and numbers: the prover covers them, and no walk is written.
 PLAIN = ('eventlist', 'sorting', 'notes', 'cutting')
-PARTS = ('track', 'param', 'layers', 'event', 'budget', 'count')
+PARTS = ('cycle', 'track', 'param', 'layers', 'event', 'budget', 'count')
 
 
 def snake(name):
@@ -169,7 +171,8 @@ class Export:
         out = []
         extra = [('Rattle.drawing.specs.Calls', 'drawAnswer'), ('Rattle.drawing.specs.Calls', 'drawLeft')]
         for module, names in re.findall(r'ghost use ([^;{]*)\.\{([^}]*)\};', walk.source(self.g.crate)):
-            module = module.replace(f'Rattle.{self.g.crate}.specs', f'Rattle.{self.g.crate}.specs')
+            if self.g.crate != 'ctrack':
+                module = module.replace(f'Rattle.{self.g.crate}.specs', f'Rattle.{self.g.crate}.specs')
             out += [(module, n) for n in re.split(r',\s*', names) if not n.startswith('_') and walk.used(n, text) and n not in own]
         return out + [x for x in extra if walk.used(x[1], text) and x not in out]
 
@@ -210,7 +213,7 @@ class Export:
         if g.crate in PLAIN:
             n = 'out_count' if g.name == 'split_note_off' else 'count'
             return f'    let r = {g.crate}::{g.name}({", ".join(self.args)});\n    *{n} = r.count;\n    r.code'
-        call = f'{g.owner or g.crate}::{g.name}'
+        call = f'{g.owner or g.crate}::{g.name}'.removeprefix('ctrack::')
         lets, args = [], list(self.args)
         if g.crate == 'reserving' and self.answer == 'Kept':
             call, lets, args = OLD[g.name]
@@ -308,7 +311,62 @@ HEAD = '''// The calls as a C program makes them, by the names of docs/API.md af
 '''
 
 
+OWN = '''// The kind of a sine as a number: 0 the full turn, 1 and 2 the quarters up and down.
+fn shape_of(kind: SineType) -> u32
+    ensures { λ r. ⌜ r ≡ shapeOf kind ⌝ }
+{
+    match kind {
+        SineType::Sine => 0,
+        SineType::UpSine => 1,
+        SineType::DownSine => 2,
+    }
+}
+
+// What a cycle over time answers, in numbers: `found` is 1 where it has a value, else 0.
+pub struct CycleTold {
+    pub code: u32,
+    pub found: u32,
+    pub value: i32,
+}
+
+fn cycle_told(answer: CycleValue) -> CycleTold
+    ensures { λ r. ⌜ r ≡ toldOf (said answer) ⌝ }
+{
+    match answer {
+        CycleValue::Value(value) => CycleTold { code: 0, found: 1, value: value },
+        CycleValue::Nothing => CycleTold { code: 0, found: 0, value: 0 },
+        CycleValue::Refused => CycleTold { code: 4, found: 0, value: 0 },
+    }
+}
+
+// The value of a cycle at `timepos`, and in `found` whether it has one: none before the start, and none of a cycle without values or with a length of 0 or less. Refuses 4.
+fn cycle_time_calc(cycle: OnCycleTime, timepos: i64) -> CycleTold
+    ensures { λ r. ⌜ r ≡ toldOf (calcOf cycle timepos) ⌝ }
+{
+    let answer = cycle.calc(timepos);
+    cycle_told(answer)
+}
+'''
+SHAPE = '''// ---- the kind of a sine
+// The kind of a sine that a number names, as `write_sine` takes it: 1 and 2 the quarters up and down, any other number the full
+// turn, which is 0. Refuses nothing.
+#[no_mangle]
+pub extern "C" fn dollavir_sine_type(v: i32) -> u32
+    ensures { λ r. ⌜ r ≡ shapeOf (sineType v) ⌝ }
+{
+    let wide = widened(v);
+    let kind = SineType::from_i(wide);
+    shape_of(kind)
+}
+'''
+OWN_USES = '''ghost use Rattle.sines.specs.Kinds.{sineType};
+ghost use Rattle.reserved.specs.Cycle.{said, calcOf};
+ghost use Rattle.ctrack.specs.Kinds.{shapeOf, toldOf};'''
+
+
 def source():
+    if not os.path.exists('crates/ctrack/src/lib.rt') or 'fn cycle_time_calc' not in walk.source('ctrack'):
+        open('crates/ctrack/src/lib.rt', 'w').write(OWN_USES + '\n' + OWN)
     sections = exports()
     every = [x for _, xs in sections for x in xs]
     cited, alias = {}, {}
@@ -330,11 +388,12 @@ def source():
     results = dict.fromkeys(x.result() for x in every if x.g.crate not in PLAIN)
     out = [HEAD + 'ghost use mathlib.Core.Path.{_≡_};']
     out += [f'ghost use lib.IntN.{{pos}};']
-    out += [f'ghost use {m}.{{{", ".join(ns)}}};' for m, ns in uses.items()]
+    uses = {m: ns for m, ns in uses.items() if f'ghost use {m}.' not in OWN_USES}
+    out += [f'ghost use {m}.{{{", ".join(ns)}}};' for m, ns in uses.items()] + [OWN_USES]
     out += ['ghost use Rattle.reserving.specs.Old.{normal};'] * any(x.g.name in OLD for x in every)
     out += [f'ghost use Rattle.ctrack.specs.Lent.{{{", ".join(records)}}};']
-    home = {**{k: v[0] for k, v in ANSWERS.items()}, 'Track': 'state', 'Budget': 'budget', 'Cycle': 'cycles', 'WriteOption': 'values', 'OnNoteSine': 'tables', 'Answer': 'lending', 'NoteParam': 'params', 'Layers': 'layers', 'Event': 'events', 'Made': 'events'}
-    out += sorted(f'use {home[t]}::{t};' for t in {**types, **results})
+    home = {**{k: v[0] for k, v in ANSWERS.items()}, 'Track': 'state', 'Budget': 'budget', 'Cycle': 'cycles', 'WriteOption': 'values', 'OnNoteSine': 'tables', 'Answer': 'lending', 'NoteParam': 'params', 'Layers': 'layers', 'Event': 'events', 'Made': 'events', 'OnCycleTime': 'reserved'}
+    out += sorted([f'use {home[t]}::{t};' for t in {**types, **results} if home[t] != 'ctrack'] + ['use reserved::CycleValue;', 'use sines::SineType;', 'use values::widened;'])
     out += ['', '// The parts of what a call by value answers.']
     need = dict.fromkeys((x.result(), f) for x in lent if x.g.crate not in PLAIN for f in x.stores + ['code'])
     for r, f in need:
@@ -353,8 +412,10 @@ fn bend() -> i32
     129
 }
 '''] if any(x.g.name in OLD for x in every) else []
+    out.append(OWN)
     for title, xs in sections:
         out += [f'// ---- {title[0].lower() + title[1:]}'] + [x.text(alias) for x in xs]
+    out.append(SHAPE)
     os.makedirs('crates/ctrack/src', exist_ok=True)
     open('crates/ctrack/src/lib.rt', 'w').write('\n'.join(out))
     # what the contracts say
@@ -365,14 +426,14 @@ fn bend() -> i32
     for a in answers:
         for t in [a] + [re.sub(r'\[(\w+); \w+\]', r'\1', t) for _, t in fields(a)]:
             if t[0].isupper() and t not in seen:
-                seen.add(t); spec.append(f'use Rattle.{home[t]}.specs.declared.{t}.{{{t}}}')
+                seen.add(t); spec.append(f'use Rattle.{home[t]}{"·specs" * (home[t] == "ctrack")}.specs.declared.{t}.{{{t}}}')
     for a in answers:
         name, listed = ANSWERS[a][1], a in LISTED
         fs = [(f, t) for f, t in fields(a) if f != 'code']
         args = f'(a : {a})' + ' (l : List ℤ)' * listed + ' (r : ℕ)' + ''.join(f' ({LETTER[f]} : {denot(t)})' for f, t in fs) + ' (m : List ℤ)' * listed
         spec += ['', f'-- {SPOKEN[name]}', f'pub record {name} {args} : Type 0 where', '  pub code : r ≡ a .code'] + [f'  pub {f} : {LETTER[f]} ≡ a .{f}' for f, _ in fs] + ['  pub events : m ≡ l'] * listed
     open('crates/ctrack/specs/Lent.antt', 'w').write('\n'.join(spec) + '\n')
-    open('crates/ctrack/specs/Lib.antt', 'w').write('pub mod Lent\n')
+    open('crates/ctrack/specs/Lib.antt', 'w').write('pub mod Kinds\npub mod Lent\n')
 
 
 if __name__ == '__main__':

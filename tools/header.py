@@ -33,9 +33,8 @@ class Library:
             lines = [l.removeprefix('//').strip() for l in comment.strip().split('\n') if not l.startswith('// ----')]
             ps = [tuple(x.strip() for x in p.split(':')) for p in re.split(r',(?![^\[]*\])', params) if p.strip()]
             self.functions.append((name, ' '.join(lines), ps, result))
-        self.homes = dict(re.findall(r'^use (\w+)::([A-Z]\w*);', text, re.M))
         self.homes = {s: c for c, s in re.findall(r'^use (\w+)::([A-Z][a-z]\w*);', text, re.M)}
-        self.structs, self.consts = {}, {}
+        self.structs = {}
         for _, _, ps, result in self.functions:
             for t in [t for _, t in ps] + [result]:
                 for s in re.findall(r'\b[A-Z]\w*', t or ''):

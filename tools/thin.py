@@ -706,7 +706,8 @@ def write_known():
     head = [l for l in imports(text, known)] + ['use denote.Struct.Laws as LL']
     for t in types:
         if t.struct:
-            head += [f'use Rattle.{t.crate}.proofs.{t.name} as {t.name}′', f'use Rattle.{t.crate}.proofs.{t.name}.Laws as {t.name}′l']
+            home = f'Rattle.{t.crate}.proofs' if t.crate == CRATE else f'Rattle.{t.crate}.proofs'
+            head += [f'use {home}.{t.name} as {t.name}′', f'use {home}.{t.name}.Laws as {t.name}′l']
     open(f'crates/{CRATE}/proofs/Known.antt', 'w').write(KNOWN + '\n'.join(head) + '\n\n' + text.rstrip() + '\n')
     modules = sorted(n.title().replace('-', '') for n, _ in LAWS.values())
     open(f'crates/{CRATE}/proofs/Walks.antt', 'w').write(''.join(f'pub mod {m}\n' for m in modules))

@@ -21,6 +21,8 @@ use Rattle.budget.proofs.Budget as Budget′
 use Rattle.budget.proofs.Budget.Laws as Budget′l
 use Rattle.cutting.proofs.CcValue as CcValue′
 use Rattle.cutting.proofs.CcValue.Laws as CcValue′l
+use Rattle.ctrack.proofs.CycleTold as CycleTold′
+use Rattle.ctrack.proofs.CycleTold.Laws as CycleTold′l
 use Rattle.events.proofs.Event as Event′
 use Rattle.events.proofs.Event.Laws as Event′l
 use Rattle.layers.proofs.Layers as Layers′
@@ -31,6 +33,8 @@ use Rattle.params.proofs.NoteParam as NoteParam′
 use Rattle.params.proofs.NoteParam.Laws as NoteParam′l
 use Rattle.noting.proofs.Noted as Noted′
 use Rattle.noting.proofs.Noted.Laws as Noted′l
+use Rattle.reserved.proofs.OnCycleTime as OnCycleTime′
+use Rattle.reserved.proofs.OnCycleTime.Laws as OnCycleTime′l
 use Rattle.drawing.proofs.OptionAnswer as OptionAnswer′
 use Rattle.drawing.proofs.OptionAnswer.Laws as OptionAnswer′l
 use Rattle.writing.proofs.Outcome as Outcome′
@@ -143,6 +147,17 @@ module _ {M : Type 1} (𝓤 : URA M) (H : Heap 𝓤) (A : Atoms 𝓤) (W : Given
     copy = LL.copy CcValue′.the-type CcValue′l.the-copy 𝓤 H A W;
   }
 
+  abbrev pub CycleTold-known : Known 𝓤 H A CycleTold′.the-row
+  CycleTold-known = record {
+    τ = CycleTold′l.mir;
+    one = refl;
+    val = LL.val CycleTold′.the-type CycleTold′l.the-laws;
+    tells = LL.tells CycleTold′.the-type CycleTold′l.the-laws;
+    typed = λ x v i. LL.lawful CycleTold′.the-type CycleTold′l.the-laws 𝓤 H A W .typed x _ i .0;
+    makes = LL.makes CycleTold′.the-type CycleTold′l.the-plain 𝓤 H A;
+    copy = LL.copy CycleTold′.the-type CycleTold′l.the-copy 𝓤 H A W;
+  }
+
   abbrev pub Event-known : Known 𝓤 H A Event′.the-row
   Event-known = record {
     τ = Event′l.mir;
@@ -196,6 +211,17 @@ module _ {M : Type 1} (𝓤 : URA M) (H : Heap 𝓤) (A : Atoms 𝓤) (W : Given
     typed = λ x v i. LL.lawful Noted′.the-type Noted′l.the-laws 𝓤 H A W .typed x _ i .0;
     makes = LL.makes Noted′.the-type Noted′l.the-plain 𝓤 H A;
     copy = LL.copy Noted′.the-type Noted′l.the-copy 𝓤 H A W;
+  }
+
+  abbrev pub OnCycleTime-known : Known 𝓤 H A OnCycleTime′.the-row
+  OnCycleTime-known = record {
+    τ = OnCycleTime′l.mir;
+    one = refl;
+    val = LL.val OnCycleTime′.the-type OnCycleTime′l.the-laws;
+    tells = LL.tells OnCycleTime′.the-type OnCycleTime′l.the-laws;
+    typed = λ x v i. LL.lawful OnCycleTime′.the-type OnCycleTime′l.the-laws 𝓤 H A W .typed x _ i .0;
+    makes = LL.makes OnCycleTime′.the-type OnCycleTime′l.the-plain 𝓤 H A;
+    copy = LL.copy OnCycleTime′.the-type OnCycleTime′l.the-copy 𝓤 H A W;
   }
 
   abbrev pub OptionAnswer-known : Known 𝓤 H A OptionAnswer′.the-row

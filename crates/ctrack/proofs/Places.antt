@@ -23,6 +23,7 @@ use Rattle.budget.proofs.Budget.Laws as Budget′
 use Rattle.cycles.proofs.Cycle.Laws as Cycle′
 use Rattle.events.proofs.Event.Laws as Event′
 use Rattle.events.proofs.Made.Laws as Made′
+use Rattle.reserved.proofs.OnCycleTime.Laws as OnCycleTime′
 
 -- the place of each field, where the first may stand at k
 abbrev pub places : ℕ → Tys → List ℕ
@@ -95,3 +96,6 @@ event-lies = refl
 
 pub made-lies : lies Made′.mir ≡ 72 ∷ 8 ∷ 0 ∷ 8 ∷ []
 made-lies = refl
+
+pub on-cycle-time-lies : lies OnCycleTime′.mir ≡ 408 ∷ 8 ∷ 0 ∷ 8 ∷ 16 ∷ []
+on-cycle-time-lies = refl

@@ -23,5 +23,6 @@ pub mod WalkStvgtm
 pub mod WalkSvlmtml
 pub mod WalkSvlvlm
 pub mod WalkSvm
+pub mod WalkSvmm
 pub mod WalkSvmtml
 pub mod WalkSvvvvvvmtml

@@ -26,6 +26,7 @@ use Rattle.params.specs.declared.ParamValue.{ParamValue}
 use Rattle.layers.specs.declared.LayersAnswer.{LayersAnswer}
 use Rattle.layers.specs.declared.Layers.{Layers}
 use Rattle.layers.specs.declared.Velocity.{Velocity}
+use Rattle.ctrack.specs.declared.CycleTold.{CycleTold}
 
 -- a call that is defined to answer a: it answers the number r and leaves the track t
 pub record TrackLeft (a : TrackAnswer) (r : ℕ) (t : Track) : Type 0 where
@@ -120,3 +121,9 @@ pub record LayersSum (a : Velocity) (r : ℕ) (v : ℤ) (l : Layers) : Type 0 wh
   pub code : r ≡ a .code
   pub value : v ≡ a .value
   pub layers : l ≡ a .layers
+
+-- a cycle over time: k is 1 where it has the value v, else 0
+pub record TimeTold (a : CycleTold) (r : ℕ) (k : ℕ) (v : ℤ) : Type 0 where
+  pub code : r ≡ a .code
+  pub found : k ≡ a .found
+  pub value : v ≡ a .value

@@ -26,8 +26,11 @@ ghost use Rattle.layers.specs.Calls.{setVSub, setVSubRandom, setVSubOnTime, set
 ghost use Rattle.events.specs.Events.{noteEvent, made, voiceEvent, madeCc, pitchBendEvent, pitchBendRangeEvent, metaEvent, directSmfEvent, sysexEvent, sizeOf};
 ghost use Rattle.params.specs.Param.{fresh};
 ghost use Rattle.layers.specs.Layers.{oneLayer};
+ghost use Rattle.sines.specs.Kinds.{sineType};
+ghost use Rattle.reserved.specs.Cycle.{said, calcOf};
+ghost use Rattle.ctrack.specs.Kinds.{shapeOf, toldOf};
 ghost use Rattle.reserving.specs.Old.{normal};
-ghost use Rattle.ctrack.specs.Lent.{TrackLeft, OptionTold, Written, Reserved, NoteWritten, CycleWritten, CcTold, ListLeft, ValueLeft, VelocityLeft, SizeTold, ParamLeft, ParamTold, ParamTaken, LayersLeft, LayersSum};
+ghost use Rattle.ctrack.specs.Lent.{TrackLeft, OptionTold, Written, Reserved, NoteWritten, CycleWritten, CcTold, ListLeft, ValueLeft, VelocityLeft, SizeTold, ParamLeft, ParamTold, ParamTaken, LayersLeft, LayersSum, TimeTold};
 use budget::Budget;
 use cutting::CcValue;
 use cycles::Cycle;
@@ -46,10 +49,14 @@ use params::ParamValue;
 use params::Told;
 use playing::TrackValue;
 use playing::TrackVelocity;
+use reserved::CycleValue;
+use reserved::OnCycleTime;
+use sines::SineType;
 use state::Track;
 use state::TrackAnswer;
 use tables::OnNoteSine;
 use values::WriteOption;
+use values::widened;
 use writing::Outcome;
 
 // The parts of what a call by value answers.
@@ -263,6 +270,24 @@ fn velocity_code(a: Velocity) -> u32
     a.code
 }
 
+fn cycle_told_found(a: CycleTold) -> u32
+    ensures { λ r. ⌜ r ≡ a .found ⌝ }
+{
+    a.found
+}
+
+fn cycle_told_value(a: CycleTold) -> i32
+    ensures { λ r. ⌜ r ≡ a .value ⌝ }
+{
+    a.value
+}
+
+fn cycle_told_code(a: CycleTold) -> u32
+    ensures { λ r. ⌜ r ≡ a .code ⌝ }
+{
+    a.code
+}
+
 // What the setters of a controller or a bend hand to those of a target: a wave as it is, and the code of the bends.
 fn as_it_is() -> u32
     ensures { λ r. ⌜ r ≡ normal ⌝ }
@@ -274,6 +299,54 @@ fn bend() -> i32
     ensures { λ r. ⌜ r ≡ pos 129 ⌝ }
 {
     129
+}
+
+// The kind of a sine as a number: 0 the full turn, 1 and 2 the quarters up and down.
+fn shape_of(kind: SineType) -> u32
+    ensures { λ r. ⌜ r ≡ shapeOf kind ⌝ }
+{
+    match kind {
+        SineType::Sine => 0,
+        SineType::UpSine => 1,
+        SineType::DownSine => 2,
+    }
+}
+
+// What a cycle over time answers, in numbers: `found` is 1 where it has a value, else 0.
+pub struct CycleTold {
+    pub code: u32,
+    pub found: u32,
+    pub value: i32,
+}
+
+fn cycle_told(answer: CycleValue) -> CycleTold
+    ensures { λ r. ⌜ r ≡ toldOf (said answer) ⌝ }
+{
+    match answer {
+        CycleValue::Value(value) => CycleTold {
+            code: 0,
+            found: 1,
+            value: value,
+        },
+        CycleValue::Nothing => CycleTold {
+            code: 0,
+            found: 0,
+            value: 0,
+        },
+        CycleValue::Refused => CycleTold {
+            code: 4,
+            found: 0,
+            value: 0,
+        },
+    }
+}
+
+// The value of a cycle at `timepos`, and in `found` whether it has one: none before the start, and none of a cycle without values or with a length of 0 or less. Refuses 4.
+fn cycle_time_calc(cycle: OnCycleTime, timepos: i64) -> CycleTold
+    ensures { λ r. ⌜ r ≡ toldOf (calcOf cycle timepos) ⌝ }
+{
+    let answer = cycle.calc(timepos);
+    cycle_told(answer)
 }
 
 // ---- a new track, a budget, an empty cycle record
@@ -1556,4 +1629,34 @@ pub extern "C" fn dollavir_layers_apply_v_sub(
     *value = velocity_value(r);
     *layers = velocity_layers(r);
     velocity_code(r)
+}
+
+// ---- a cycle over time of its own
+// The value of a cycle at `timepos`, and in `found` whether it has one: none before the start, and none of a cycle
+// without values or with a length of 0 or less. Leaves it in `value`. Refuses 4.
+#[no_mangle]
+pub extern "C" fn dollavir_cycle_time_calc(
+    cycle: &OnCycleTime,
+    timepos: i64,
+    found: &mut u32,
+    value: &mut i32,
+) -> u32
+    ensures { λ r. ⌜ TimeTold (toldOf (calcOf (now (cycle .entry)) timepos)) r (now (found .exit)) (now (value .exit)) ⌝ }
+{
+    let r = cycle_time_calc(*cycle, timepos);
+    *found = cycle_told_found(r);
+    *value = cycle_told_value(r);
+    cycle_told_code(r)
+}
+
+// ---- the kind of a sine
+// The kind of a sine that a number names, as `write_sine` takes it: 1 and 2 the quarters up and down, any other number the full
+// turn, which is 0. Refuses nothing.
+#[no_mangle]
+pub extern "C" fn dollavir_sine_type(v: i32) -> u32
+    ensures { λ r. ⌜ r ≡ shapeOf (sineType v) ⌝ }
+{
+    let wide = widened(v);
+    let kind = SineType::from_i(wide);
+    shape_of(kind)
 }
