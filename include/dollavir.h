@@ -1,6 +1,6 @@
 /* The calls of Dollavir from C. Made by tools/header.py from crates/ctrack/src; not edited by hand.
  *
- * What a function returns as uint32_t is a number of this table; where it is not 0, all that is lent is as it was:
+ * What a function answers as a 32-bit number is one of this table; where it is not 0, all that is lent is as it was:
  *   0 done
  *   1 the list is not a whole number of records, its count is above it, or the cycle table has not sixteen
  *   2 a target or controller argument is none
@@ -328,7 +328,7 @@ uint32_t dollavir_set_cc_on_time_freq(dollavir_track *track, int32_t freq);
 /* The same of a bend's curve. Refuses 4. */
 uint32_t dollavir_set_pb_on_time_freq(dollavir_track *track, int32_t freq);
 
-/* What is set for a target. Leaves it in `option`. Refuses 2, 4. */
+/* What is set for a target. Leaves it in `option`, 0 where it refuses. Refuses 2, 4. */
 uint32_t dollavir_get_write_opt(const dollavir_track *track, int32_t target, dollavir_write_option *option);
 
 /* How many steps later a target's events stand. Refuses 2, 4. */
@@ -440,7 +440,7 @@ uint32_t dollavir_write_cc_on_cycle(const dollavir_track *track, dollavir_cycle 
     int64_t until, dollavir_budget *budget, int64_t *events, size_t events_length, size_t *count);
 
 /* The value of controller `number` on the track's channel at its time: that of the last such event in list order
-   at or before it, or the controller's default. Leaves it in `value`. Refuses 1, 2, 4. */
+   at or before it, or the controller's default. Leaves it in `value`, 0 where it refuses. Refuses 1, 2, 4. */
 uint32_t dollavir_current_cc_value(const dollavir_track *track, int32_t number, const int64_t *events, size_t
     events_length, size_t count, const uint8_t *store, size_t store_length, int64_t *value);
 
@@ -454,8 +454,9 @@ uint32_t dollavir_remove_pitch_bend_in_range(int64_t *events, size_t events_leng
 uint32_t dollavir_events_sort(int64_t *events, size_t events_length, size_t count, const uint8_t *store,
     size_t store_length);
 
-/* Puts the list's events at the front of `out`, after each note its end, and answers how many they are. Beyond
-   them `out` is left as it is. Refuses 1, 4, 7; then all of `out` is left as it is. */
+/* Puts the list's events at the front of `out`, after each note its end, and leaves their number in `out_count`.
+   Beyond them `out` is left as it is. Refuses 1, 4, 7; then all of `out` is left as it is, and `out_count` is
+   `count`. */
 uint32_t dollavir_split_note_off(const int64_t *events, size_t events_length, size_t count, int64_t *out,
     size_t out_length, const uint8_t *store, size_t store_length, size_t *out_count);
 
@@ -476,35 +477,37 @@ uint32_t dollavir_full_cut(int64_t *events, size_t events_length, size_t *count,
     *store, size_t store_length);
 
 /* A note's velocity at the track's time, of the curve or cycle that is reserved, or the default; a curve that is
-   over goes. Leaves it in `value`. Refuses 4. */
+   over goes. Leaves it in `value`, 0 where it refuses. Refuses 4. */
 uint32_t dollavir_calc_v_on_time(dollavir_track *track, int32_t def, int32_t *value);
 
-/* The same of a note's timing. Leaves it in `value`. Refuses 4. */
+/* The same of a note's timing. Leaves it in `value`, 0 where it refuses. Refuses 4. */
 uint32_t dollavir_calc_t_on_time(dollavir_track *track, int32_t def, int32_t *value);
 
-/* The same of a note's gate. Leaves it in `value`. Refuses 4. */
+/* The same of a note's gate. Leaves it in `value`, 0 where it refuses. Refuses 4. */
 uint32_t dollavir_calc_qlen_on_time(dollavir_track *track, int32_t def, int32_t *value);
 
-/* The same of a note's octave. Leaves it in `value`. Refuses 4. */
+/* The same of a note's octave. Leaves it in `value`, 0 where it refuses. Refuses 4. */
 uint32_t dollavir_calc_o_on_time(dollavir_track *track, int32_t def, int32_t *value);
 
-/* The same of a note's length. Leaves it in `value`. Refuses 4. */
+/* The same of a note's length. Leaves it in `value`, 0 where it refuses. Refuses 4. */
 uint32_t dollavir_calc_l_on_time(dollavir_track *track, int32_t def, int32_t *value);
 
 /* A note's velocity, the next of the list that is reserved, or the default; a list that is spent goes. While the
-   list is there, the value is the track's velocity too. Leaves it in `value`. Refuses 4. */
+   list is there, the value is the track's velocity too. Leaves it in `value`, 0 where it refuses. Refuses 4. */
 uint32_t dollavir_calc_v_on_note(dollavir_track *track, int32_t def, int32_t *value);
 
-/* The same of a note's timing. Leaves it in `value`. Refuses 4. */
+/* The same of a note's timing. Leaves it in `value`, 0 where it refuses. Refuses 4. */
 uint32_t dollavir_calc_t_on_note(dollavir_track *track, int32_t def, int32_t *value);
 
-/* The same of a note's gate, which is no longer one in steps then. Leaves it in `value`. Refuses 4. */
+/* The same of a note's gate, which is no longer one in steps then. Leaves it in `value`, 0 where it refuses.
+   Refuses 4. */
 uint32_t dollavir_calc_qlen_on_note(dollavir_track *track, int32_t def, int32_t *value);
 
-/* The same of a note's octave. Leaves it in `value`. Refuses 4. */
+/* The same of a note's octave. Leaves it in `value`, 0 where it refuses. Refuses 4. */
 uint32_t dollavir_calc_o_on_note(dollavir_track *track, int32_t def, int32_t *value);
 
-/* The same of a note's length, which the track does not keep. Leaves it in `value`. Refuses 4. */
+/* The same of a note's length, which the track does not keep. Leaves it in `value`, 0 where it refuses. Refuses
+   4. */
 uint32_t dollavir_calc_l_on_note(dollavir_track *track, int32_t def, int32_t *value);
 
 /* A layer's value; nothing stays reserved for it. Refuses 4, 5. */
@@ -528,7 +531,7 @@ uint32_t dollavir_set_v_sub_on_note(dollavir_track *track, size_t index, const i
     values_length);
 
 /* A note's velocity at the track's time: the given one and what every layer adds to it. The layers come back
-   advanced. Leaves it in `value`. Refuses 4. */
+   advanced. Leaves it in `value`, 0 where it refuses. Refuses 4. */
 uint32_t dollavir_apply_v_sub(dollavir_track *track, int32_t velocity, int64_t *value);
 
 /* The setters of a parameter, `which` by its number; any other number refuses 4. Reserves a curve, low, high and
@@ -606,7 +609,7 @@ dollavir_note_param dollavir_param_new(void);
 /* Nothing stays reserved. Refuses 4. */
 uint32_t dollavir_param_clear_reserve(dollavir_note_param *param);
 
-/* 1 where something is reserved, else 0. Leaves it in `value`. Refuses 4. */
+/* 1 where something is reserved, else 0. Leaves it in `value`, 0 where it refuses. Refuses 4. */
 uint32_t dollavir_param_has_reserve(const dollavir_note_param *param, int32_t *value);
 
 /* Reserves a curve, low, high and length by threes, from `timepos` and the delay on. Refuses 3, 4. */
@@ -622,18 +625,19 @@ uint32_t dollavir_param_set_on_cycle(dollavir_note_param *param, int64_t timepos
 uint32_t dollavir_param_set_on_note(dollavir_note_param *param, const int32_t *values, size_t values_length);
 
 /* The value of the reserved curve or cycle at `timepos`, or the default; a curve that is over goes. Leaves it in
-   `value`. Refuses 4. */
+   `value`, 0 where it refuses. Refuses 4. */
 uint32_t dollavir_param_calc_on_time(dollavir_note_param *param, int64_t timepos, int32_t def, int32_t
     *value);
 
-/* The next value of the reserved list, or the default; a list that is spent goes. Leaves it in `value`. Refuses
-   4. */
+/* The next value of the reserved list, or the default; a list that is spent goes. Leaves it in `value`, 0 where
+   it refuses. Refuses 4. */
 uint32_t dollavir_param_calc_on_note(dollavir_note_param *param, int32_t def, int32_t *value);
 
-/* A value limited by the range and then by the maximum, where there is one. Leaves it in `limited`. Refuses 4. */
+/* A value limited by the range and then by the maximum, where there is one. Leaves it in `limited`, 0 where it
+   refuses. Refuses 4. */
 uint32_t dollavir_param_apply_limit(const dollavir_note_param *param, int32_t value, int32_t *limited);
 
-/* The maximum, or the default where there is none. Leaves it in `value`. Refuses 4. */
+/* The maximum, or the default where there is none. Leaves it in `value`, 0 where it refuses. Refuses 4. */
 uint32_t dollavir_param_max_or(const dollavir_note_param *param, int32_t def, int32_t *value);
 
 /* The random width of a value. Refuses 4. */
@@ -681,12 +685,12 @@ uint32_t dollavir_layers_set_v_sub_on_note(dollavir_layers *layers, size_t index
     int32_t *values, size_t values_length);
 
 /* A note's velocity at `timepos`: the given one and what every layer adds to it. The layers come back advanced.
-   Leaves it in `value`. Refuses 4. */
+   Leaves it in `value`, 0 where it refuses. Refuses 4. */
 uint32_t dollavir_layers_apply_v_sub(dollavir_layers *layers, int64_t timepos, int32_t velocity, int64_t
     *value);
 
 /* The value of a cycle at `timepos`, and in `found` whether it has one: none before the start, and none of a
-   cycle without values or with a length of 0 or less. Leaves it in `value`. Refuses 4. */
+   cycle without values or with a length of 0 or less. Leaves it in `value`, 0 where it refuses. Refuses 4. */
 uint32_t dollavir_cycle_time_calc(const dollavir_on_cycle_time *cycle, int64_t timepos, uint32_t *found,
     int32_t *value);
 

@@ -1,5 +1,5 @@
 // The calls of Dollavir for a Rust client that links the library. Made by tools/header.py from crates/ctrack/src; not edited by hand.
-// What a function returns as uint32_t is a number of this table; where it is not 0, all that is lent is as it was:
+// What a function answers as a 32-bit number is one of this table; where it is not 0, all that is lent is as it was:
 //   0 done
 //   1 the list is not a whole number of records, its count is above it, or the cycle table has not sixteen
 //   2 a target or controller argument is none
@@ -354,7 +354,7 @@ extern "C" {
     // The same of a bend's curve. Refuses 4.
     pub fn dollavir_set_pb_on_time_freq(track: *mut Track, freq: i32) -> u32;
 
-    // What is set for a target. Leaves it in `option`. Refuses 2, 4.
+    // What is set for a target. Leaves it in `option`, 0 where it refuses. Refuses 2, 4.
     pub fn dollavir_get_write_opt(track: *const Track, target: i32, option: *mut WriteOption) -> u32;
 
     // How many steps later a target's events stand. Refuses 2, 4.
@@ -446,7 +446,8 @@ extern "C" {
     pub fn dollavir_write_cc_on_cycle(track: *const Track, cycles: *mut Cycle, cycles_length: usize, until: i64, budget: *mut Budget, events: *mut i64, events_length: usize, count: *mut usize) -> u32;
 
     // The value of controller `number` on the track's channel at its time: that of the last such event in list
-    // order at or before it, or the controller's default. Leaves it in `value`. Refuses 1, 2, 4.
+    // order at or before it, or the controller's default. Leaves it in `value`, 0 where it refuses. Refuses 1, 2,
+    // 4.
     pub fn dollavir_current_cc_value(track: *const Track, number: i32, events: *const i64, events_length: usize, count: usize, store: *const u8, store_length: usize, value: *mut i64) -> u32;
 
     // Takes out the bends from `start` to `end`, that time included. Answers the new count; the others keep their
@@ -457,8 +458,9 @@ extern "C" {
     // left as it is.
     pub fn dollavir_events_sort(events: *mut i64, events_length: usize, count: usize, store: *const u8, store_length: usize) -> u32;
 
-    // Puts the list's events at the front of `out`, after each note its end, and answers how many they are.
-    // Beyond them `out` is left as it is. Refuses 1, 4, 7; then all of `out` is left as it is.
+    // Puts the list's events at the front of `out`, after each note its end, and leaves their number in
+    // `out_count`. Beyond them `out` is left as it is. Refuses 1, 4, 7; then all of `out` is left as it is, and
+    // `out_count` is `count`.
     pub fn dollavir_split_note_off(events: *const i64, events_length: usize, count: usize, out: *mut i64, out_length: usize, store: *const u8, store_length: usize, out_count: *mut usize) -> u32;
 
     // Puts after each note of the list its end, and answers the new count. Refuses 1, 4, 7; then the list is left
@@ -475,35 +477,38 @@ extern "C" {
     pub fn dollavir_full_cut(events: *mut i64, events_length: usize, count: *mut usize, cut: i64, store: *const u8, store_length: usize) -> u32;
 
     // A note's velocity at the track's time, of the curve or cycle that is reserved, or the default; a curve that
-    // is over goes. Leaves it in `value`. Refuses 4.
+    // is over goes. Leaves it in `value`, 0 where it refuses. Refuses 4.
     pub fn dollavir_calc_v_on_time(track: *mut Track, def: i32, value: *mut i32) -> u32;
 
-    // The same of a note's timing. Leaves it in `value`. Refuses 4.
+    // The same of a note's timing. Leaves it in `value`, 0 where it refuses. Refuses 4.
     pub fn dollavir_calc_t_on_time(track: *mut Track, def: i32, value: *mut i32) -> u32;
 
-    // The same of a note's gate. Leaves it in `value`. Refuses 4.
+    // The same of a note's gate. Leaves it in `value`, 0 where it refuses. Refuses 4.
     pub fn dollavir_calc_qlen_on_time(track: *mut Track, def: i32, value: *mut i32) -> u32;
 
-    // The same of a note's octave. Leaves it in `value`. Refuses 4.
+    // The same of a note's octave. Leaves it in `value`, 0 where it refuses. Refuses 4.
     pub fn dollavir_calc_o_on_time(track: *mut Track, def: i32, value: *mut i32) -> u32;
 
-    // The same of a note's length. Leaves it in `value`. Refuses 4.
+    // The same of a note's length. Leaves it in `value`, 0 where it refuses. Refuses 4.
     pub fn dollavir_calc_l_on_time(track: *mut Track, def: i32, value: *mut i32) -> u32;
 
     // A note's velocity, the next of the list that is reserved, or the default; a list that is spent goes. While
-    // the list is there, the value is the track's velocity too. Leaves it in `value`. Refuses 4.
+    // the list is there, the value is the track's velocity too. Leaves it in `value`, 0 where it refuses. Refuses
+    // 4.
     pub fn dollavir_calc_v_on_note(track: *mut Track, def: i32, value: *mut i32) -> u32;
 
-    // The same of a note's timing. Leaves it in `value`. Refuses 4.
+    // The same of a note's timing. Leaves it in `value`, 0 where it refuses. Refuses 4.
     pub fn dollavir_calc_t_on_note(track: *mut Track, def: i32, value: *mut i32) -> u32;
 
-    // The same of a note's gate, which is no longer one in steps then. Leaves it in `value`. Refuses 4.
+    // The same of a note's gate, which is no longer one in steps then. Leaves it in `value`, 0 where it refuses.
+    // Refuses 4.
     pub fn dollavir_calc_qlen_on_note(track: *mut Track, def: i32, value: *mut i32) -> u32;
 
-    // The same of a note's octave. Leaves it in `value`. Refuses 4.
+    // The same of a note's octave. Leaves it in `value`, 0 where it refuses. Refuses 4.
     pub fn dollavir_calc_o_on_note(track: *mut Track, def: i32, value: *mut i32) -> u32;
 
-    // The same of a note's length, which the track does not keep. Leaves it in `value`. Refuses 4.
+    // The same of a note's length, which the track does not keep. Leaves it in `value`, 0 where it refuses.
+    // Refuses 4.
     pub fn dollavir_calc_l_on_note(track: *mut Track, def: i32, value: *mut i32) -> u32;
 
     // A layer's value; nothing stays reserved for it. Refuses 4, 5.
@@ -524,7 +529,7 @@ extern "C" {
     pub fn dollavir_set_v_sub_on_note(track: *mut Track, index: usize, values: *const i32, values_length: usize) -> u32;
 
     // A note's velocity at the track's time: the given one and what every layer adds to it. The layers come back
-    // advanced. Leaves it in `value`. Refuses 4.
+    // advanced. Leaves it in `value`, 0 where it refuses. Refuses 4.
     pub fn dollavir_apply_v_sub(track: *mut Track, velocity: i32, value: *mut i64) -> u32;
 
     // The setters of a parameter, `which` by its number; any other number refuses 4. Reserves a curve, low, high
@@ -595,7 +600,7 @@ extern "C" {
     // Nothing stays reserved. Refuses 4.
     pub fn dollavir_param_clear_reserve(param: *mut NoteParam) -> u32;
 
-    // 1 where something is reserved, else 0. Leaves it in `value`. Refuses 4.
+    // 1 where something is reserved, else 0. Leaves it in `value`, 0 where it refuses. Refuses 4.
     pub fn dollavir_param_has_reserve(param: *const NoteParam, value: *mut i32) -> u32;
 
     // Reserves a curve, low, high and length by threes, from `timepos` and the delay on. Refuses 3, 4.
@@ -609,18 +614,18 @@ extern "C" {
     pub fn dollavir_param_set_on_note(param: *mut NoteParam, values: *const i32, values_length: usize) -> u32;
 
     // The value of the reserved curve or cycle at `timepos`, or the default; a curve that is over goes. Leaves it
-    // in `value`. Refuses 4.
+    // in `value`, 0 where it refuses. Refuses 4.
     pub fn dollavir_param_calc_on_time(param: *mut NoteParam, timepos: i64, def: i32, value: *mut i32) -> u32;
 
-    // The next value of the reserved list, or the default; a list that is spent goes. Leaves it in `value`.
-    // Refuses 4.
+    // The next value of the reserved list, or the default; a list that is spent goes. Leaves it in `value`, 0
+    // where it refuses. Refuses 4.
     pub fn dollavir_param_calc_on_note(param: *mut NoteParam, def: i32, value: *mut i32) -> u32;
 
-    // A value limited by the range and then by the maximum, where there is one. Leaves it in `limited`. Refuses
-    // 4.
+    // A value limited by the range and then by the maximum, where there is one. Leaves it in `limited`, 0 where
+    // it refuses. Refuses 4.
     pub fn dollavir_param_apply_limit(param: *const NoteParam, value: i32, limited: *mut i32) -> u32;
 
-    // The maximum, or the default where there is none. Leaves it in `value`. Refuses 4.
+    // The maximum, or the default where there is none. Leaves it in `value`, 0 where it refuses. Refuses 4.
     pub fn dollavir_param_max_or(param: *const NoteParam, def: i32, value: *mut i32) -> u32;
 
     // The random width of a value. Refuses 4.
@@ -665,11 +670,11 @@ extern "C" {
     pub fn dollavir_layers_set_v_sub_on_note(layers: *mut Layers, index: usize, repeat: u32, values: *const i32, values_length: usize) -> u32;
 
     // A note's velocity at `timepos`: the given one and what every layer adds to it. The layers come back
-    // advanced. Leaves it in `value`. Refuses 4.
+    // advanced. Leaves it in `value`, 0 where it refuses. Refuses 4.
     pub fn dollavir_layers_apply_v_sub(layers: *mut Layers, timepos: i64, velocity: i32, value: *mut i64) -> u32;
 
     // The value of a cycle at `timepos`, and in `found` whether it has one: none before the start, and none of a
-    // cycle without values or with a length of 0 or less. Leaves it in `value`. Refuses 4.
+    // cycle without values or with a length of 0 or less. Leaves it in `value`, 0 where it refuses. Refuses 4.
     pub fn dollavir_cycle_time_calc(cycle: *const OnCycleTime, timepos: i64, found: *mut u32, value: *mut i32) -> u32;
 
     // The kind of a sine that a number names, as `write_sine` takes it: 1 and 2 the quarters up and down, any

@@ -38,7 +38,7 @@ pub record OptionTold (a : OptionAnswer) (r : ℕ) (o : WriteOption) : Type 0 wh
   pub code : r ≡ a .code
   pub option : o ≡ a .option
 
--- a write whose outcome is a and which leaves the numbers l in the list: the number r, the budget b, the count n, the numbers m
+-- a write whose outcome is a and which leaves the numbers l in the list: the number r, the count n, the budget b, the numbers m
 pub record Written (a : Outcome) (l : List ℤ) (r : ℕ) (n : ℕ) (b : Budget) (m : List ℤ) : Type 0 where
   pub code : r ≡ a .code
   pub count : n ≡ a .count

@@ -1,6 +1,6 @@
 // The calls as a C program makes them, by the names of docs/API.md after `dollavir_`. A record that a call changes is lent by `&mut`, one
 // that it reads by `&`; what a call answers besides its number goes to where its last parameters point. The number is that of
-// document 01's table. Refused, all that is lent stays as it is, and a value that is answered is 0. Written by tools/ctrack.py.
+// document 01's table. Refused, all that is lent stays as it is, and what is answered besides the number is 0. Written by tools/ctrack.py.
 ghost use mathlib.Core.Path.{_≡_};
 ghost use lib.IntN.{pos};
 ghost use Rattle.state.specs.Calls.{newOf, setTimepos, setChannel, setCcFreq, setPbFreq};
@@ -28,8 +28,8 @@ ghost use Rattle.params.specs.Param.{fresh};
 ghost use Rattle.layers.specs.Layers.{oneLayer};
 ghost use Rattle.sines.specs.Kinds.{sineType};
 ghost use Rattle.reserved.specs.Cycle.{said, calcOf};
-ghost use Rattle.ctrack.specs.Kinds.{shapeOf, toldOf};
 ghost use Rattle.reserving.specs.Old.{normal};
+ghost use Rattle.ctrack.specs.Kinds.{shapeOf, toldOf};
 ghost use Rattle.ctrack.specs.Lent.{TrackLeft, OptionTold, Written, Reserved, NoteWritten, CycleWritten, CcTold, ListLeft, ValueLeft, VelocityLeft, SizeTold, ParamLeft, ParamTold, ParamTaken, LayersLeft, LayersSum, TimeTold};
 use budget::Budget;
 use cutting::CcValue;
@@ -417,7 +417,7 @@ pub extern "C" fn dollavir_set_pb_on_time_freq(track: &mut Track, freq: i32) -> 
 }
 
 // ---- a target's option
-// What is set for a target. Leaves it in `option`. Refuses 2, 4.
+// What is set for a target. Leaves it in `option`, 0 where it refuses. Refuses 2, 4.
 #[no_mangle]
 pub extern "C" fn dollavir_get_write_opt(
     track: &Track,
@@ -836,7 +836,7 @@ pub extern "C" fn dollavir_write_cc_on_cycle(
 
 // ---- a controller's value
 // The value of controller `number` on the track's channel at its time: that of the last such event in list order at
-// or before it, or the controller's default. Leaves it in `value`. Refuses 1, 2, 4.
+// or before it, or the controller's default. Leaves it in `value`, 0 where it refuses. Refuses 1, 2, 4.
 #[no_mangle]
 pub extern "C" fn dollavir_current_cc_value(
     track: &Track,
@@ -882,8 +882,9 @@ pub extern "C" fn dollavir_events_sort(events: &mut [i64], count: usize, store: 
     sorting::events_sort(events, count, store)
 }
 
-// Puts the list's events at the front of `out`, after each note its end, and answers how many they are. Beyond them
-// `out` is left as it is. Refuses 1, 4, 7; then all of `out` is left as it is.
+// Puts the list's events at the front of `out`, after each note its end, and leaves their number in `out_count`.
+// Beyond them `out` is left as it is. Refuses 1, 4, 7; then all of `out` is left as it is, and `out_count` is
+// `count`.
 #[no_mangle]
 pub extern "C" fn dollavir_split_note_off(
     events: &[i64],
@@ -953,7 +954,7 @@ pub extern "C" fn dollavir_full_cut(
 
 // ---- the track's parameters and layers
 // A note's velocity at the track's time, of the curve or cycle that is reserved, or the default; a curve that is over
-// goes. Leaves it in `value`. Refuses 4.
+// goes. Leaves it in `value`, 0 where it refuses. Refuses 4.
 #[no_mangle]
 pub extern "C" fn dollavir_calc_v_on_time(track: &mut Track, def: i32, value: &mut i32) -> u32
     ensures { λ r. ⌜ ValueLeft (valueOnTime velocity (now (track .entry)) def) r (now (value .exit)) (now (track .exit)) ⌝ }
@@ -964,7 +965,7 @@ pub extern "C" fn dollavir_calc_v_on_time(track: &mut Track, def: i32, value: &m
     track_value_code(r)
 }
 
-// The same of a note's timing. Leaves it in `value`. Refuses 4.
+// The same of a note's timing. Leaves it in `value`, 0 where it refuses. Refuses 4.
 #[no_mangle]
 pub extern "C" fn dollavir_calc_t_on_time(track: &mut Track, def: i32, value: &mut i32) -> u32
     ensures { λ r. ⌜ ValueLeft (valueOnTime timing (now (track .entry)) def) r (now (value .exit)) (now (track .exit)) ⌝ }
@@ -975,7 +976,7 @@ pub extern "C" fn dollavir_calc_t_on_time(track: &mut Track, def: i32, value: &m
     track_value_code(r)
 }
 
-// The same of a note's gate. Leaves it in `value`. Refuses 4.
+// The same of a note's gate. Leaves it in `value`, 0 where it refuses. Refuses 4.
 #[no_mangle]
 pub extern "C" fn dollavir_calc_qlen_on_time(track: &mut Track, def: i32, value: &mut i32) -> u32
     ensures { λ r. ⌜ ValueLeft (valueOnTime gate (now (track .entry)) def) r (now (value .exit)) (now (track .exit)) ⌝ }
@@ -986,7 +987,7 @@ pub extern "C" fn dollavir_calc_qlen_on_time(track: &mut Track, def: i32, value:
     track_value_code(r)
 }
 
-// The same of a note's octave. Leaves it in `value`. Refuses 4.
+// The same of a note's octave. Leaves it in `value`, 0 where it refuses. Refuses 4.
 #[no_mangle]
 pub extern "C" fn dollavir_calc_o_on_time(track: &mut Track, def: i32, value: &mut i32) -> u32
     ensures { λ r. ⌜ ValueLeft (valueOnTime octave (now (track .entry)) def) r (now (value .exit)) (now (track .exit)) ⌝ }
@@ -997,7 +998,7 @@ pub extern "C" fn dollavir_calc_o_on_time(track: &mut Track, def: i32, value: &m
     track_value_code(r)
 }
 
-// The same of a note's length. Leaves it in `value`. Refuses 4.
+// The same of a note's length. Leaves it in `value`, 0 where it refuses. Refuses 4.
 #[no_mangle]
 pub extern "C" fn dollavir_calc_l_on_time(track: &mut Track, def: i32, value: &mut i32) -> u32
     ensures { λ r. ⌜ ValueLeft (valueOnTime span (now (track .entry)) def) r (now (value .exit)) (now (track .exit)) ⌝ }
@@ -1009,7 +1010,7 @@ pub extern "C" fn dollavir_calc_l_on_time(track: &mut Track, def: i32, value: &m
 }
 
 // A note's velocity, the next of the list that is reserved, or the default; a list that is spent goes. While the list
-// is there, the value is the track's velocity too. Leaves it in `value`. Refuses 4.
+// is there, the value is the track's velocity too. Leaves it in `value`, 0 where it refuses. Refuses 4.
 #[no_mangle]
 pub extern "C" fn dollavir_calc_v_on_note(track: &mut Track, def: i32, value: &mut i32) -> u32
     ensures { λ r. ⌜ ValueLeft (valueOnNote velocity (now (track .entry)) def) r (now (value .exit)) (now (track .exit)) ⌝ }
@@ -1020,7 +1021,7 @@ pub extern "C" fn dollavir_calc_v_on_note(track: &mut Track, def: i32, value: &m
     track_value_code(r)
 }
 
-// The same of a note's timing. Leaves it in `value`. Refuses 4.
+// The same of a note's timing. Leaves it in `value`, 0 where it refuses. Refuses 4.
 #[no_mangle]
 pub extern "C" fn dollavir_calc_t_on_note(track: &mut Track, def: i32, value: &mut i32) -> u32
     ensures { λ r. ⌜ ValueLeft (valueOnNote timing (now (track .entry)) def) r (now (value .exit)) (now (track .exit)) ⌝ }
@@ -1031,7 +1032,8 @@ pub extern "C" fn dollavir_calc_t_on_note(track: &mut Track, def: i32, value: &m
     track_value_code(r)
 }
 
-// The same of a note's gate, which is no longer one in steps then. Leaves it in `value`. Refuses 4.
+// The same of a note's gate, which is no longer one in steps then. Leaves it in `value`, 0 where it refuses. Refuses
+// 4.
 #[no_mangle]
 pub extern "C" fn dollavir_calc_qlen_on_note(track: &mut Track, def: i32, value: &mut i32) -> u32
     ensures { λ r. ⌜ ValueLeft (valueOnNote gate (now (track .entry)) def) r (now (value .exit)) (now (track .exit)) ⌝ }
@@ -1042,7 +1044,7 @@ pub extern "C" fn dollavir_calc_qlen_on_note(track: &mut Track, def: i32, value:
     track_value_code(r)
 }
 
-// The same of a note's octave. Leaves it in `value`. Refuses 4.
+// The same of a note's octave. Leaves it in `value`, 0 where it refuses. Refuses 4.
 #[no_mangle]
 pub extern "C" fn dollavir_calc_o_on_note(track: &mut Track, def: i32, value: &mut i32) -> u32
     ensures { λ r. ⌜ ValueLeft (valueOnNote octave (now (track .entry)) def) r (now (value .exit)) (now (track .exit)) ⌝ }
@@ -1053,7 +1055,7 @@ pub extern "C" fn dollavir_calc_o_on_note(track: &mut Track, def: i32, value: &m
     track_value_code(r)
 }
 
-// The same of a note's length, which the track does not keep. Leaves it in `value`. Refuses 4.
+// The same of a note's length, which the track does not keep. Leaves it in `value`, 0 where it refuses. Refuses 4.
 #[no_mangle]
 pub extern "C" fn dollavir_calc_l_on_note(track: &mut Track, def: i32, value: &mut i32) -> u32
     ensures { λ r. ⌜ ValueLeft (valueOnNote span (now (track .entry)) def) r (now (value .exit)) (now (track .exit)) ⌝ }
@@ -1119,7 +1121,7 @@ pub extern "C" fn dollavir_set_v_sub_on_note(track: &mut Track, index: usize, va
 }
 
 // A note's velocity at the track's time: the given one and what every layer adds to it. The layers come back
-// advanced. Leaves it in `value`. Refuses 4.
+// advanced. Leaves it in `value`, 0 where it refuses. Refuses 4.
 #[no_mangle]
 pub extern "C" fn dollavir_apply_v_sub(track: &mut Track, velocity: i32, value: &mut i64) -> u32
     ensures { λ r. ⌜ VelocityLeft (summedUp (now (track .entry)) (applyVSub ((now (track .entry)) .layers) ((now (track .entry)) .timepos) velocity))
@@ -1357,7 +1359,7 @@ pub extern "C" fn dollavir_param_clear_reserve(param: &mut NoteParam) -> u32
     param_answer_code(r)
 }
 
-// 1 where something is reserved, else 0. Leaves it in `value`. Refuses 4.
+// 1 where something is reserved, else 0. Leaves it in `value`, 0 where it refuses. Refuses 4.
 #[no_mangle]
 pub extern "C" fn dollavir_param_has_reserve(param: &NoteParam, value: &mut i32) -> u32
     ensures { λ r. ⌜ ParamTold (hasReserve (now (param .entry))) r (now (value .exit)) ⌝ }
@@ -1407,7 +1409,7 @@ pub extern "C" fn dollavir_param_set_on_note(param: &mut NoteParam, values: &[i3
 }
 
 // The value of the reserved curve or cycle at `timepos`, or the default; a curve that is over goes. Leaves it in
-// `value`. Refuses 4.
+// `value`, 0 where it refuses. Refuses 4.
 #[no_mangle]
 pub extern "C" fn dollavir_param_calc_on_time(
     param: &mut NoteParam,
@@ -1423,7 +1425,8 @@ pub extern "C" fn dollavir_param_calc_on_time(
     param_value_code(r)
 }
 
-// The next value of the reserved list, or the default; a list that is spent goes. Leaves it in `value`. Refuses 4.
+// The next value of the reserved list, or the default; a list that is spent goes. Leaves it in `value`, 0 where it
+// refuses. Refuses 4.
 #[no_mangle]
 pub extern "C" fn dollavir_param_calc_on_note(
     param: &mut NoteParam,
@@ -1438,7 +1441,8 @@ pub extern "C" fn dollavir_param_calc_on_note(
     param_value_code(r)
 }
 
-// A value limited by the range and then by the maximum, where there is one. Leaves it in `limited`. Refuses 4.
+// A value limited by the range and then by the maximum, where there is one. Leaves it in `limited`, 0 where it
+// refuses. Refuses 4.
 #[no_mangle]
 pub extern "C" fn dollavir_param_apply_limit(
     param: &NoteParam,
@@ -1452,7 +1456,7 @@ pub extern "C" fn dollavir_param_apply_limit(
     told_code(r)
 }
 
-// The maximum, or the default where there is none. Leaves it in `value`. Refuses 4.
+// The maximum, or the default where there is none. Leaves it in `value`, 0 where it refuses. Refuses 4.
 #[no_mangle]
 pub extern "C" fn dollavir_param_max_or(param: &NoteParam, def: i32, value: &mut i32) -> u32
     ensures { λ r. ⌜ ParamTold (maximumOr (now (param .entry)) def) r (now (value .exit)) ⌝ }
@@ -1615,7 +1619,7 @@ pub extern "C" fn dollavir_layers_set_v_sub_on_note(
 }
 
 // A note's velocity at `timepos`: the given one and what every layer adds to it. The layers come back advanced.
-// Leaves it in `value`. Refuses 4.
+// Leaves it in `value`, 0 where it refuses. Refuses 4.
 #[no_mangle]
 pub extern "C" fn dollavir_layers_apply_v_sub(
     layers: &mut Layers,
@@ -1633,7 +1637,7 @@ pub extern "C" fn dollavir_layers_apply_v_sub(
 
 // ---- a cycle over time of its own
 // The value of a cycle at `timepos`, and in `found` whether it has one: none before the start, and none of a cycle
-// without values or with a length of 0 or less. Leaves it in `value`. Refuses 4.
+// without values or with a length of 0 or less. Leaves it in `value`, 0 where it refuses. Refuses 4.
 #[no_mangle]
 pub extern "C" fn dollavir_cycle_time_calc(
     cycle: &OnCycleTime,
