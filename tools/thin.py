@@ -13,7 +13,8 @@ import walk
 from walk import Type, Walk, items, loc, nested, nth, parse, split_commas, statements, tup
 
 CRATE = 'ctrack'
-HANDED = ('slice', 'table', 'given')
+HANDED = ('slice', 'table', 'given')  # parameters that a call is handed as they are
+SLICE = '(tt, (tt, (record {{ fits = a{i}-fits }}, tt)))'  # a slice's machine value is typed
 MIR = None
 
 
@@ -110,8 +111,11 @@ class Lent(walk.Subject):
 # ---- the law of a shape
 
 class Law:
-    """The walk of a function of this shape, whatever its types, calls and contracts. Parameters are a1, a2, ..; types that are
-    read from a reference or answered by a call are rows R1, R2, .. with what is known of each; calls are g1, g2, .."""
+    """The walk of a function of this shape, whatever its types, calls and contracts. Parameters are a1, a2, .., a reference's with its
+    lifetime κ and share q, a value's with its type τ, what is handed on with its pointer b, o, its length n, and its element's type ε
+    and, behind the reference, π. Types that are read from a reference or answered by a call are rows R1, R2, .. with what is known of
+    each, K1, K2, ..; calls are g1, g2, .., each of which leaves its result r and the assertion E of it. One call is handed what is
+    handed on: it asks P and gives T back. The function ends in Q."""
     def __init__(self, s):
         self.s, self.rows, self.calls = s, [], []
         for n, kind, t in s.fn.params:
@@ -206,72 +210,86 @@ class Law:
     def typed(self, v):
         return f'(K{v[0]} .typed {v[1]} {v[2]} {v[3]})' if v[0] != 'val' else f'a{v[1]}-typed'
 
+    def start(self):
+        """What is had of the references at the start."""
+        return [x for i, p in enumerate(self.s.fn.params, 1) for x in {'ref': [f'obs{i}', f'bor{i}', f'T{i}'], 'sref': [f'shr{i}', f'T{i}']}.get(p[1], [])] + ['P']
+
     def walk(self):
-        s = self.s
-        ps = s.fn.params
-        start = []
-        for i, (n, kind, t) in enumerate(ps, 1):
-            start += {'ref': [f'obs{i}', f'bor{i}', f'T{i}'], 'sref': [f'shr{i}', f'T{i}']}.get(kind, [])
-        w = self.w = Walk(start + ['P'])
+        s, ps = self.s, self.s.fn.params
         self.full, self.value, self.held, self.results, self.mets, self.args = set(), {}, {}, [], [], []
-        w.say('enter ! C Λ fn machines _ $')
-        for i in range(s.count):
-            w.bind(f'alloc1 ! (λ {loc(i)}.')
-        w.say('alloc0 ! $ params1 ! $')
-        w.turn(0, *[x for i in reversed(range(s.count)) for x in (f'_{i}', f'd{i}')])
+        self.w = Walk(self.start())
+        self.enter()
         for i, (n, kind, t) in enumerate(ps, 1):
-            self.value[i] = ('val' if kind == 'val' else 'ref' if kind in ('ref', 'sref') else 'handed', i)
-            typed = {'val': f'a{i}-typed', 'ref': '(tt, tt)', 'sref': '(tt, tt)', 'given': '(tt, tt)'}.get(kind, f'(tt, (tt, (record {{ fits = a{i}-fits }}, tt)))')
-            w.say(f'pass1 ! {self.put(i, typed)} $')
-        w.say('pass0 ! $')
-        for i, (n, kind, t) in enumerate(ps, 1):
-            if kind not in ('ref', 'sref'):
-                continue
-            k = self.row(t)
-            h, b, o, v = f'(a{i} .now)', f'(a{i} .ptr .0)', f'(a{i} .ptr .1)', f'(K{k} .val (a{i} .now))'
-            w.note(f'what is lent as a{i} is opened')
-            if kind == 'ref':
-                w.front(f'obs{i}', f'bor{i}', f'T{i}')
-                share = 'fullShare'
-                w.bind(f'opens ! tt R{k} {{h = {h}}} {b} {o} (λ vs{i}.')
-                w.turn(3, f'cell{i}', f'has{i}', f'open{i}', f'obs{i}', f'auth{i}')
-            else:
-                w.front(f'shr{i}', f'T{i}')
-                share = f's{i}'
-                w.bind(f'looks ! tt R{k} (Is R{k}) (shows 𝓤 H A R{k}) (λ y. K{k} .val y ∷ []) (K{k} .tells) (K{k} .copy) {h} {b} {o} (λ s{i} vs{i}.')
-                w.turn(2, f'cell{i}', f'has{i}', f'open{i}', f'shr{i}')
-            w.say(f'spelt ! R{k} (Is R{k}) (shows 𝓤 H A R{k}) (λ y. K{k} .val y ∷ []) (K{k} .tells) {share} {h} vs{i} {b} {o} $')
-            w.rewrite(f'cell{i}', f'(λ (ts : List Ty). ‵ (cellAt {share} ts ({v} ∷ []) {b} {o}))', f'(K{k} .one)')
-            w.front(f'has{i}')
-            w.bind(f'peeks ! R{k} (Is R{k}) (shows 𝓤 H A R{k}) {h} ({v} ∷ []) (λ was{i}.')
-            self.held[i] = (k, h, v, f'was{i}')
+            if kind in ('ref', 'sref'):
+                self.open(i, kind, self.row(t))
         for x in s.body:
             if x[0] == 'assign':
                 self.assign(x)
             elif x[0] == 'call':
                 self.call(x)
         for i, (n, kind, t) in enumerate(ps, 1):
-            if kind not in ('ref', 'sref'):
-                continue
-            k, e, v, is_ = self.held[i]
-            b, o = f'(a{i} .ptr .0)', f'(a{i} .ptr .1)'
-            share = 'fullShare' if kind == 'ref' else f's{i}'
-            w.note(f'a{i} is closed')
-            if kind == 'ref':
-                w.drop(f'has{i}'); w.say(f'owned ! R{k} (Is R{k}) (K{k} .makes) {e} _ {is_} $'); w.turn(0, f'has{i}')
-            w.rewrite(f'cell{i}', f'(λ (ts : List Ty). ‵ (cellAt {share} ts ({v} ∷ []) {b} {o}))', f'(sym (K{k} .one))')
-            if kind == 'ref':
-                w.front(f'cell{i}', f'has{i}', f'open{i}', f'obs{i}', f'auth{i}')
-                w.say(f'closes ! tt R{k} {e} ({v} ∷ []) {b} {o} $'); w.turn(5, f'obs{i}', f'bor{i}', f'T{i}')
-            else:
-                w.front(f'cell{i}', f'has{i}', f'open{i}')
-                w.say(f'shuts ! tt R{k} {share} {e} ({v} ∷ []) {b} {o} $'); w.turn(3, f'T{i}')
+            if kind in ('ref', 'sref'):
+                self.close(i, kind)
+        self.leave()
+
+    def enter(self):
+        w, s = self.w, self.s
+        w.say('enter ! C Λ fn machines _ $')
+        for i in range(s.count):
+            w.bind(f'alloc1 ! (λ {loc(i)}.')
+        w.say('alloc0 ! $ params1 ! $')
+        w.turn(0, *[x for i in reversed(range(s.count)) for x in (f'_{i}', f'd{i}')])
+        for i, (n, kind, t) in enumerate(s.fn.params, 1):
+            self.value[i] = ('val' if kind == 'val' else 'ref' if kind in ('ref', 'sref') else 'handed', i)
+            typed = {'val': f'a{i}-typed', 'slice': SLICE.format(i=i), 'table': SLICE.format(i=i)}.get(kind, '(tt, tt)')
+            w.say(f'pass1 ! {self.put(i, typed)} $')
+        w.say('pass0 ! $')
+
+    def open(self, i, kind, k):
+        w = self.w
+        h, b, o, v = f'(a{i} .now)', f'(a{i} .ptr .0)', f'(a{i} .ptr .1)', f'(K{k} .val (a{i} .now))'
+        row, spelled = f'R{k} (Is R{k}) (shows 𝓤 H A R{k})', f'(λ y. K{k} .val y ∷ []) (K{k} .tells)'
+        share = 'fullShare' if kind == 'ref' else f's{i}'
+        w.note(f'what is lent as a{i} is opened')
+        if kind == 'ref':
+            w.front(f'obs{i}', f'bor{i}', f'T{i}')
+            w.bind(f'opens ! tt R{k} {{h = {h}}} {b} {o} (λ vs{i}.')
+            w.turn(3, f'cell{i}', f'has{i}', f'open{i}', f'obs{i}', f'auth{i}')
+        else:
+            w.front(f'shr{i}', f'T{i}')
+            w.bind(f'looks ! tt {row} {spelled} (K{k} .copy) {h} {b} {o} (λ s{i} vs{i}.')
+            w.turn(2, f'cell{i}', f'has{i}', f'open{i}', f'shr{i}')
+        w.say(f'spelt ! {row} {spelled} {share} {h} vs{i} {b} {o} $')
+        w.rewrite(f'cell{i}', self.cell(i, share, v), f'(K{k} .one)')
+        w.front(f'has{i}')
+        w.bind(f'peeks ! {row} {h} ({v} ∷ []) (λ was{i}.')
+        self.held[i] = (k, h, v, f'was{i}')
+
+    def cell(self, i, share, v):
+        return f'(λ (ts : List Ty). ‵ (cellAt {share} ts ({v} ∷ []) (a{i} .ptr .0) (a{i} .ptr .1)))'
+
+    def close(self, i, kind):
+        w, (k, e, v, is_) = self.w, self.held[i]
+        b, o, share = f'(a{i} .ptr .0)', f'(a{i} .ptr .1)', 'fullShare' if kind == 'ref' else f's{i}'
+        w.note(f'a{i} is closed')
+        if kind == 'ref':
+            w.drop(f'has{i}'); w.say(f'owned ! R{k} (Is R{k}) (K{k} .makes) {e} _ {is_} $'); w.turn(0, f'has{i}')
+        w.rewrite(f'cell{i}', self.cell(i, share, v), f'(sym (K{k} .one))')
+        if kind == 'ref':
+            w.front(f'cell{i}', f'has{i}', f'open{i}', f'obs{i}', f'auth{i}')
+            w.say(f'closes ! tt R{k} {e} ({v} ∷ []) {b} {o} $'); w.turn(5, f'obs{i}', f'bor{i}', f'T{i}')
+        else:
+            w.front(f'cell{i}', f'has{i}', f'open{i}')
+            w.say(f'shuts ! tt R{k} {share} {e} ({v} ∷ []) {b} {o} $'); w.turn(3, f'T{i}')
+
+    def leave(self):
+        w, s = self.w, self.s
+        calls = range(1, len(self.calls) + 1)
         w.say(f'returns ! (look ! {w.at("_0")} refl) $')
         w.forget([f'_{i}' for i in range(s.count) if i in self.full]); w.free(s.count)
-        self.left = [x for i, p in enumerate(ps, 1) for x in {'ref': [f'obs{i}', f'bor{i}', f'T{i}'], 'sref': [f'T{i}']}.get(p[1], [])]
-        self.left += ['T'] * self.lends() + [f'E{c}' for c in range(1, len(self.calls) + 1)]
+        self.left = [x for x in self.start() if x != 'P' and x[:3] != 'shr'] + ['T'] * self.lends() + [f'E{c}' for c in calls]
         w.keep(*self.left)
-        w.say('by ! (ends ' + ' '.join(f'r{c} w{c} is{c}' for c in range(1, len(self.calls) + 1)) + ')')
+        w.say('by ! (ends ' + ' '.join(f'r{c} w{c} is{c}' for c in calls) + ')')
         self.last = self.value[0]
 
     def lends(self):
@@ -301,7 +319,7 @@ class Law:
                 ops = f'(and-then ! {text} {ops})'
             j = xs[0][1][1]
             self.value[i] = ('handed', j)
-            w.assign(f'(agg ! {ops})', self.put(i, f'(tt, (tt, (record {{ fits = a{j}-fits }}, tt)))'))
+            w.assign(f'(agg ! {ops})', self.put(i, SLICE.format(i=j)))
 
     def given(self, v):
         """The machine value of an argument."""
@@ -355,7 +373,7 @@ class Law:
         short = {'ref': 'm', 'sref': 's', 'val': 'v', 'slice': 'l', 'table': 't', 'given': 'g'}
         return ''.join(short[p[1]] for p in self.s.fn.params)
 
-    def items_at(self, names, concrete=None):
+    def items_at(self, names):
         """The context's items, in the law's words."""
         out = []
         for n in names:
@@ -396,10 +414,9 @@ class Law:
             o.append(f'    (E{c} : ' + ''.join(f'R{self.results[j - 1]} .Denot → ' for j in before) + f'R{self.results[c - 1]} .Denot → SProp 𝓤)')
         o.append('    (Q : Val → SProp 𝓤) where')
         o += ['  abbrev fn : Fn', '  fn = ' + self.literal(), '', '  abbrev machines : List Val', '  machines = ' + ' ∷ '.join(self.machine(i) for i in range(1, len(ps) + 1)) + ' ∷ []', '']
-        start = [x for i, p in enumerate(ps, 1) for x in {'ref': [f'obs{i}', f'bor{i}', f'T{i}'], 'sref': [f'shr{i}', f'T{i}']}.get(p[1], [])] + ['P']
         at_start = {f'obs{i}': f'(a{i} .now)' for i in range(1, len(ps) + 1)}
         at_end = {f'obs{i}': self.held[i][1] for i in self.held}
-        first = self.items_at(start).format_map(at_start)
+        first = self.items_at(self.start()).format_map(at_start)
         last = self.items_at(self.left).format_map(at_end)
         alls = ''.join(f'(r{c} : R{k} .Denot) (w{c} : Val) → Is R{k} r{c} (w{c} ∷ []) → ' for c, k in enumerate(self.results, 1))
         o += [f'  pub {name} :'] + ['      ' + ('' if c == 1 else '→ ') + f'(met{c} : {m[3]})' for c, m in enumerate(self.mets, 1)]
@@ -433,6 +450,10 @@ def imports(text, table=IMPORTS):
 LAWS = {}
 
 
+def module_of(name):
+    return name.title().replace('-', '')
+
+
 def law_of(s):
     """The law of a function's shape: the one that there is, or a new one."""
     law = Law(s)
@@ -443,9 +464,8 @@ def law_of(s):
         name = f'walk-{law.letters()}' + f'-{same + 1}' * bool(same)
         LAWS[key] = (name, law)
         text = '\n'.join(law.text(name))
-        module = name.title().replace('-', '')
         head = [f'-- A function that is lent and handed, in this order, {spoken(law)}: it reads what is lent whole, makes {len(law.calls)} calls, and puts back.', '-- Written by tools/ctrack.py.']
-        path = f'crates/{CRATE}/proofs/Walks/{module}.antt'
+        path = f'crates/{CRATE}/proofs/Walks/{module_of(name)}.antt'
         os.makedirs(os.path.dirname(path), exist_ok=True)
         open(path, 'w').write('\n'.join(head + imports(text) + [f'use Rattle.{CRATE}.proofs.Known.{{Known}}', '', text]) + '\n')
     return LAWS[key][0], law
@@ -471,67 +491,60 @@ def cited(calls):
 
 # ---- a function's proof
 
-def prove(name, about):
-    s = Lent(name)
-    walk_name, law = law_of(s)
-    ps, fn = s.fn.params, s.fn
-    known = {t: f'({t}-known 𝓤 H A W)' for t in law.rows}
-    types = [s.type(t) for t in law.rows]
-    ks, qs = s.ghosts()
-    calls = law.calls
-    slices = [(i, p) for i, p in enumerate(ps, 1) if p[1] in HANDED]
-    # what the walk begins with
-    w = Walk(['tokens', 'owns'])
-    for p in s.refs:
-        w.part('split', 'tokens', 'T-' + p[0], 'tokens')
-    kept = []
-    for n, kind, t in ps:
-        w.part('fsplit', 'owns', 'o-' + n, 'owns')
-        if kind == 'ref':
-            w.part('fsplit3', 'o-' + n, 'same', 'obs-' + n, 'bor-' + n); w.drop('same')
-            kept += ['obs-' + n, 'bor-' + n, 'T-' + n]
-        elif kind == 'sref':
-            w.part('fsplit3', 'o-' + n, 'same', 'res-' + n, 'shr-' + n); w.drop('same'); w.drop('res-' + n)
-            kept += ['shr-' + n, 'T-' + n]
-    lent = [x for _, p in slices for x in ('o-' + p[0], 'T-' + p[0])]
-    if lent:
-        w.keep(*kept, *lent)
-    else:
-        w.drop('owns'); w.say('nothing ! $'); w.turn(0, 'none'); w.keep(*kept, 'none')
-    item = {}
-    for p in ps:
-        n = p[0]
-        if p[1] in HANDED:
-            item['o-' + n] = f'‵ ({s.row(p)} .own {n} {s.vals(p)})'
-        if p[1] != 'val':
-            item['T-' + n] = f'‵ (flft {s.k(n)} {s.q(n)})'
-    P = f'(⋆ 𝓤 H A ({" ∷ ".join(item[x] for x in lent)} ∷ []))' if lent else None
-    tokens = ' ⊛ '.join([item['T-' + p[0]] for _, p in slices] + ['‵ ftrue'])
-    # the calls: what each is handed, and what it says
-    mets, Es, hears = [], [], []
-    for c, (g, (before, read, main, _)) in enumerate(zip(calls, law.mets), 1):
-        x = [y for y in s.body if y[0] == 'call'][c - 1]
-        args = []
-        for op, p in zip(items(x[2]), g.params):
-            v = law.args[c - 1][g.params.index(p)]
+def home(crate, part):
+    return f'Rattle.{crate}.{part}' if crate == CRATE else f'Rattle.{crate}.{part}'
+
+
+def chain(xs):
+    return f'({" ∷ ".join(xs)} ∷ [])' if xs else '[]'
+
+
+class Instance:
+    """The law of a function's shape at its types, calls and contracts; `about` says what proves its own contract."""
+    def __init__(self, name, about):
+        self.s, self.about = Lent(name), about
+        self.walk_name, self.law = law_of(self.s)
+        self.ps, self.calls = self.s.fn.params, self.law.calls
+        s = self.s
+        self.handed = [p for p in self.ps if p[1] in HANDED]
+        self.item = {'T-' + p[0]: f'‵ (flft {s.k(p[0])} {s.q(p[0])})' for p in s.refs}
+        self.item.update({'o-' + p[0]: f'‵ ({s.row(p)} .own {p[0]} {s.vals(p)})' for p in self.handed})
+        self.lent = [x for p in self.handed for x in ('o-' + p[0], 'T-' + p[0])]
+        self.tokens = ' ⊛ '.join([self.item['T-' + p[0]] for p in self.handed] + ['‵ ftrue'])
+        self.given = [self.arguments(c) for c in range(len(self.calls))]
+
+    def term(self, e):
+        """A term of the law, in the function's names."""
+        m = re.fullmatch(r'\(a(\d+) \.now\)', e)
+        return f'({self.ps[int(m[1]) - 1][0]} .now)' if m else e
+
+    def arguments(self, c):
+        """What the call c is handed, each ('handed', parameter) or ('v', type, term, its fact, its machine values); and as the logic has it."""
+        s, args = self.s, []
+        for v in self.law.args[c]:
             if v[0] == 'handed':
-                args.append(('handed', ps[v[1] - 1]))
+                args.append(('handed', self.ps[v[1] - 1]))
             elif v[0] == 'val':
-                q = ps[v[1] - 1]
-                args.append(('v', s.type(q[2]), q[0], q[0] + '-is', s.vals(q)))
+                p = self.ps[v[1] - 1]
+                args.append(('v', s.type(p[2]), p[0], p[0] + '-is', s.vals(p)))
             else:
-                t = s.type(law.rows[v[0] - 1])
-                m = re.fullmatch(r'\(a(\d+) \.now\)', v[1])
-                e = f'({ps[int(m[1]) - 1][0]} .now)' if m else v[1]
-                args.append(('v', t, e, f'was-{ps[int(m[1]) - 1][0]}' if m else v[3], f'({t.vals} {e})' if m else f'({v[2]} ∷ [])'))
-        gk = tup([s.k(a[1][0]) for a in args if a[0] == 'handed'])
-        gq = tup([s.q(a[1][0]) for a in args if a[0] == 'handed'])
+                t, e = s.type(self.law.rows[v[0] - 1]), self.term(v[1])
+                args.append(('v', t, e, v[3], f'({v[2]} ∷ [])') if e == v[1] else ('v', t, e, 'was-' + e[1:-6], f'({t.vals} {e})'))
+        on = [a[1] for a in args if a[0] == 'handed']
+        ks, qs = tup([s.k(p[0]) for p in on]), tup([s.q(p[0]) for p in on])
         terms = tup([a[1][0] if a[0] == 'handed' else a[2] for a in args])
         vals = tup([s.vals(a[1]) if a[0] == 'handed' else a[4] for a in args])
-        C = f'({g.dash}′C 𝓤 H A at-mem run)'
-        to = f'(({gk}, {gq}, tt, {terms}, {vals}), tt)'
-        v = Walk(lent if main else [])
-        begin = f'({" ∷ ".join(item[x] for x in lent)} ∷ [])' if main else '[]'
+        return args, ks, terms, f'(({ks}, {qs}, tt, {terms}, {vals}), tt)'
+
+    def left(self, c):
+        """What the call c leaves besides its result."""
+        g, (_, ks, terms, _) = self.calls[c], self.given[c]
+        return f'ensured 𝓤 H A {g.dash}′.ended ({g.dash}′.clauses 𝓤 H A at-mem run) {ks} {terms} tt r{c + 1}'
+
+    def met(self, c):
+        """That the call c is handed what it asks."""
+        g, (args, _, _, to), (before, read, main, _) = self.calls[c], self.given[c], self.law.mets[c]
+        v, begin = Walk(self.lent if main else []), chain([self.item[x] for x in self.lent] if main else [])
         v.say('nothing ! $'); v.turn(0, 'tokens')
         for a in reversed(args):
             if a[0] == 'handed':
@@ -543,129 +556,167 @@ def prove(name, about):
             else:
                 v.front('owns'); v.say(a[1].owned(a[2], a[3])); v.turn(0, 'x'); v.fuse('fjoin', 'owns', 'x', 'owns')
         v.fuse('join', 'pre', 'tokens', 'owns')
-        v.say(f'use1 W (raw ({C} .pre {to})) (∗emp 𝓤 _) $ done !')
-        opens = ''.join(f' r{j} w{j} is{j}' for j in before) + ''.join(f' was-{ps[int(re.search("a(.+) .now", y[1])[1]) - 1][0]}' for y in read)
-        lam = 'λ' + opens + '. ' if opens else ''
-        mets.append(f'({lam}via 𝓤 ({C} .pre {to}) (qed W {begin} ∵ {" ".join(v.out)}) (known{c} {to}))')
-        E = f'ensured 𝓤 H A {g.dash}′.ended ({g.dash}′.clauses 𝓤 H A at-mem run) {gk} {terms} tt'
-        Es.append(f'(λ {"".join(f"r{j} " for j in before)}r{c}. {E} r{c})')
-        hears.append((g, args, gk, terms))
-    # what it ends with
-    u = Walk([re.sub(r'^(obs|bor|T)(\d+)$', lambda m: f'{m[1]}-{ps[int(m[2]) - 1][0]}', x) for x in law.left])
-    names = {f'a{i}': p[0] for i, p in enumerate(ps, 1)}
-    ends = []
-    for x in law.left:
-        m = re.fullmatch(r'(obs|bor|T)(\d+)', x)
-        if m:
-            n, t = ps[int(m[2]) - 1][0], s.type(ps[int(m[2]) - 1][2])
-            e = law.held.get(int(m[2]))
-            e = e and (f'({n} .now)' if '.now' in e[1] else e[1])
-            ends.append({'obs': f'‵ (fobs ({n} .name) ({t.row} .coded .code {e}))', 'bor': f'‵ (fbor {s.k(n)} (Body (mem {t.row}) ({n} .ptr .0) ({n} .ptr .1) ({n} .name)))', 'T': f'‵ (flft {s.k(n)} {s.q(n)})'}[m[1]])
-        elif x == 'T':
-            ends.append(f'({tokens})')
+        asked = f'({g.dash}′C 𝓤 H A at-mem run) .pre {to}'
+        v.say(f'use1 W (raw ({asked})) (∗emp 𝓤 _) $ done !')
+        facts = ''.join(f' r{j} w{j} is{j}' for j in before) + ''.join(f' was-{self.term(y[1])[1:-6]}' for y in read)
+        return f'({"λ" + facts + ". " if facts else ""}via 𝓤 ({asked}) (qed W {begin} ∵ {" ".join(v.out)}) (known{c + 1} {to}))'
+
+    def begins(self):
+        """From what the function is entered with to what the law begins with."""
+        w, kept = Walk(['tokens', 'owns']), []
+        for p in self.s.refs:
+            w.part('split', 'tokens', 'T-' + p[0], 'tokens')
+        for n, kind, t in self.ps:
+            w.part('fsplit', 'owns', 'o-' + n, 'owns')
+            if kind == 'ref':
+                w.part('fsplit3', 'o-' + n, 'same', 'obs-' + n, 'bor-' + n); w.drop('same')
+                kept += ['obs-' + n, 'bor-' + n, 'T-' + n]
+            elif kind == 'sref':
+                w.part('fsplit3', 'o-' + n, 'same', 'res-' + n, 'shr-' + n); w.drop('same'); w.drop('res-' + n)
+                kept += ['shr-' + n, 'T-' + n]
+        if self.lent:
+            w.keep(*kept, *self.lent)
         else:
-            c = int(x[1:])
-            ends.append(f'raw ({Es[c - 1][1:-1].split(". ", 1)[1]})')
-    lasts_of, long_of = {}, {}
-    for c, (g, args, gk, terms) in enumerate(hears, 1):
+            w.drop('owns'); w.say('nothing ! $'); w.turn(0, 'none'); w.keep(*kept, 'none')
+        return w
+
+    def stands(self):
+        """What the law ends with: the names of the items, and the items."""
+        names, out = [], []
+        for x in self.law.left:
+            m = re.fullmatch(r'(obs|bor|T)(\d+)', x)
+            if m:
+                n, _, t = self.ps[int(m[2]) - 1]
+                k, row = self.s.k(n), self.s.type(t).row
+                names.append(f'{m[1]}-{n}')
+                out.append({'obs': lambda: f'‵ (fobs ({n} .name) ({row} .coded .code {self.term(self.law.held[int(m[2])][1])}))',
+                            'bor': lambda: f'‵ (fbor {k} (Body (mem {row}) ({n} .ptr .0) ({n} .ptr .1) ({n} .name)))', 'T': lambda: self.item['T-' + n]}[m[1]]())
+            else:
+                names.append(x)
+                out.append(f'({self.tokens})' if x == 'T' else f'raw ({self.left(int(x[1:]) - 1)})')
+        return names, out
+
+    def hear(self, u, c):
+        """What the call c says, e, and the last values that it leaves."""
+        s, g, (args, ks, terms, _) = self.s, self.calls[c - 1], self.given[c - 1]
         lists = [f'({a[1][0]} .now)' if a[0] == 'handed' else a[2] for a in args]
         zs = {p[0]: f'({nth("zs", i)})' for i, p in enumerate(g.params) if p[1] in ('table', 'ref')}
-        kinds = nested([f'List {s.type(p[2]).denot}' if p[1] == 'table' else s.type(p[2]).denot if p[1] == 'ref' else 'Unit {0}' for p in g.params])
+        kinds = nested([{'table': f'List {s.type(p[2]).denot}', 'ref': s.type(p[2]).denot}.get(p[1], 'Unit {0}') for p in g.params])
         u.front(f'E{c}')
-        u.bind(f'use1 W (some (λ (zs : {kinds}). ‵ (lasts {g.dash}′.ended {gk} {terms} zs) ⊛ raw (fact 𝓤 ({g.said(lists, f"r{c}", zs)})))) (id⊢ 𝓤 _) $ pick ! (λ zs{c}.')
+        u.bind(f'use1 W (some (λ (zs : {kinds}). ‵ (lasts {g.dash}′.ended {ks} {terms} zs) ⊛ raw (fact 𝓤 ({g.said(lists, f"r{c}", zs)})))) (id⊢ 𝓤 _) $ pick ! (λ zs{c}.')
         u.part('split', f'E{c}', 'lasts', 'fact'); u.front('fact')
         zs = {n: y.replace('zs', f'zs{c}') for n, y in zs.items()}
         u.bind(f'heard ! ({g.said(lists, f"r{c}", zs)}) (λ e{c}.'); u.turn(1)
         for i, (p, a) in enumerate(zip(g.params, args)):
-            if p[1] == 'table':
+            if p[1] in ('table', 'ref'):
                 n = a[1][0]
+                self.last[n] = f'({nth(f"zs{c}", i)})'
+            if p[1] == 'table':
                 u.part('fsplit', 'lasts', 'x', 'lasts'); u.part('fsplit', 'x', 'fin-' + n, 'same')
                 u.front('same'); u.bind(f'feqL ! (λ l{c}-{n}.'); u.turn(1)
-                lasts_of[n], long_of[n] = f'({nth(f"zs{c}", i)})', f'l{c}-{n}'
+                self.as_long[n] = f'l{c}-{n}'
             elif p[1] == 'ref':
-                n = a[1][0]
                 u.part('fsplit', 'lasts', 'fin-' + n, 'lasts')
-                lasts_of[n] = f'({nth(f"zs{c}", i)})'
             elif any(q[1] in ('table', 'ref') for q in g.params[i:]):
                 u.part('fsplit', 'lasts', 'x', 'lasts'); u.drop('x')
         u.drop('lasts')
-    if slices:
-        u.front('T')
-        for _, p in slices:
-            u.part('split', 'T', 'T-' + p[0], 'T')
-        u.drop('T')
-    held = {ps[i - 1][0]: (f'({ps[i - 1][0]} .now)' if '.now' in e[1] else e[1]) for i, e in law.held.items()}
-    last = tup([held[n] if kind == 'ref' else lasts_of[n] if kind in ('table', 'given') else 'tt' for n, kind, _ in ps])
-    long = tup([long_of[n] if kind == 'table' else 'tt' for n, kind, _ in ps])
-    out = s.type(fn.result)
-    _, e, m, is_ = law.last
-    u.say(f'suffices ! _ (ends-at 𝓤 H A f.ended stayed (f.clauses 𝓤 H A at-mem run) W (({ks}, {qs}, tt, x, at), tt) {m} {e} {last} {long}) $ says ! {about["ends"]} $')
-    u.say('nothing ! $'); u.turn(0, 'tokens')
-    for p in reversed(s.refs):
-        u.fuse('join', 'tokens', 'T-' + p[0], 'tokens')
-    u.say('frame ! $'); u.turn(1)
-    for n, kind, _ in ps:
-        if kind == 'ref':
-            u.say(f'feqI ! (List Val) (ptr-vals {n}) (ptr-vals {n}) refl $'); u.turn(0, 'same')
-            u.fuse('fjoin3', 'o-' + n, 'same', 'obs-' + n, 'bor-' + n)
-    u.say('nothing ! $'); u.turn(0, 'owns')
-    for n, kind, _ in reversed(ps):
-        if kind in ('val', 'slice', 'sref'):
-            u.front('owns'); u.say('nothing ! $'); u.turn(0, 'o-' + n)
-        u.fuse('fjoin', 'owns', ('fin-' if kind in ('table', 'given') else 'o-') + n, 'owns')
-    u.say(out.owned(e, is_)); u.turn(0, 'result'); u.front('owns', 'result'); u.say('done !')
-    # the file
-    knowns = ' '.join(f'(known{j} : Triple 𝓤 (C #{g.dash}) ({g.dash}′C 𝓤 H A at-mem run))' for j, g in enumerate(calls, 1))
-    o = walk.section(s, ['ref', 'sref', 'given'])
-    alls = ''.join(f'(r{c} : {s.type(law.rows[k - 1]).denot}) (w{c} : Val) → Is {s.type(law.rows[k - 1]).row} r{c} (w{c} ∷ []) → ' for c, k in enumerate(law.results, 1))
-    ctx = ' ∷ '.join(ends) + ' ∷ []'
-    o += [f'  ends : {alls}ent 𝓤 (⋆ 𝓤 H A ({ctx})) (Post {m})', '  ends ' + ' '.join(f'r{c} w{c} is{c}' for c in range(1, len(calls) + 1)) + ' =', f'      qed W ({ctx}) ∵', u.text(6), '']
-    o += [f'  module _ (C : Calls 𝓤 H) (Λ : Loops 𝓤 H) (fm : FmC 𝓤 H (W .laws) C) {knowns} where']
-    given = [f'{t.row} {known[t.name]}' for t in types]
-    for i, p in enumerate(ps, 1):
-        n, kind, t = p
-        ty = s.type(t)
-        if kind in ('ref', 'sref'):
-            given.append(f'{s.k(n)} {s.q(n)} {n}')
-        elif kind == 'val':
-            given.append(f'{ty.mir if ty.struct else "(tyInt " + walk.WIDTH[t] + ")"} {s.machine(p)} {ty.typed(n, n + "-is")}')
-        elif kind == 'given':
-            given.append(f'(pointee ({ty.row} .written)) {ty.mir} ({n} .ptr .0) ({n} .ptr .1)')
-        else:
-            point = f'(pointee ({ty.row} .written)) {ty.mir}' if ty.struct else f'(tyInt {walk.WIDTH[t]}) (tyInt {walk.WIDTH[t]})'
-            given.append(f'{point} ({n} .ptr .0) ({n} .ptr .1) (length ({n} .now)) ({n}-is .0 .1 .0)')
-    given.append(' '.join(f'#{g.dash}' for g in calls) + (f' {P} (mean 𝓤 H A ({tokens}))' if lent else ''))
-    given += Es + ['Post'] + mets + ['ends']
-    w.say(f'by ! ({walk_name} 𝓤 H A W C Λ fm\n' + '\n'.join('            ' + x for x in given) + ')')
-    o += walk.walk_head(s, 4) + [w.text(8), '']
-    nm = ' '.join(f'known{j}' for j in range(1, len(calls) + 1))
-    kinds = lambda c: ' → '.join(f'Triple 𝓤 ({c} #{g.dash}) ({g.dash}′C 𝓤 H A at-mem run)' for g in calls)
-    o += walk.tail(s, 'C Λ', '(C : Calls 𝓤 H) (Λ : Loops 𝓤 H)', 'C', 'Λ', kinds('C'), kinds('𝓣 .C'), nm, ['ref', 'sref', 'given'], '(𝓣 .C) (𝓣 .Λ)', calls)
-    head = ['abbrev stayed : Stays (f.ended .signature .params) (f.ended .kept)', 'stayed = ' + tup([s.stays(p, 'gave-slice') for p in ps]), '']
-    for g in dict.fromkeys(calls):
-        head += [f'-- the contract of `{g.name}`', f'abbrev {g.dash}′C : {walk.SIG} {walk.MEM} → Contract 𝓤', f'{g.dash}′C 𝓤 H A at-mem run = tripleOf 𝓤 H A {g.dash}′.signature ({g.dash}′.spec 𝓤 H A at-mem run)', '']
-    text = '\n'.join(head + o)
-    for g in calls:
-        text = text.replace(f'code.calls-{g.crate}·{g.dash} ', f'code.calls-{g.crate}·{g.key} ')
-    home = lambda c, part: f'Rattle.{c}.{part}' if c == CRATE else f'Rattle.{c}.{part}'
-    module = walk_name.title().replace('-', '')
-    f = [f'-- `{name}`: {about["head"]} Written by tools/ctrack.py.'] + imports(text) + ['use denote.Struct.Laws as LL']
-    for t in sorted(s.types.values(), key=lambda t: t.name):
-        if t.struct and f'{t.name}′' in text:
-            f += [f'use {home(t.crate, "specs")}.declared.{t.name}.{{{t.name}}}'] * walk.used(t.denot, text)
-            f += [f'use {home(t.crate, "proofs")}.{t.name} as {t.name}′'] * (f'{t.name}′.' in text) + [f'use {home(t.crate, "proofs")}.{t.name}.Laws as {t.name}′l'] * (f'{t.name}′l.' in text)
-    f += [f'use Rattle.{CRATE}.proofs.Known.{{{", ".join(t + "-known" for t in law.rows)}}}', f'use Rattle.{CRATE}.proofs.Walks.{module}.{{{walk_name}}}']
-    f += cited(calls)
-    f += about.get('uses', [])
-    for g in dict.fromkeys(calls):
-        m_ = f'{home(g.crate, "proofs")}.{g.path}'
-        f += [f'use {m_} as {g.dash}′', f'use {m_}.Symbol as {g.dash}′def', f'use {m_}.Symbol.{{name as #{g.dash}}}', f'use {m_}.Met as {g.dash}′thm']
-    m_ = f'Rattle.{CRATE}.proofs.{name}'
-    f += [f'use {m_}.Key.{{name as #f}}', f'use {m_} as f', f'use {m_}.Statement as stated', f'use {m_}.Code as code', '']
+
+    def ends(self):
+        """From what the law ends with to the function's own contract."""
+        s, law, ps = self.s, self.law, self.ps
+        names, items_ = self.stands()
+        u, self.last, self.as_long = Walk(names), {}, {}
+        for c in range(1, len(self.calls) + 1):
+            self.hear(u, c)
+        if self.handed:
+            u.front('T')
+            for p in self.handed:
+                u.part('split', 'T', 'T-' + p[0], 'T')
+            u.drop('T')
+        self.last.update({ps[i - 1][0]: self.term(e[1]) for i, e in law.held.items()})
+        last = tup([self.last[n] if kind in ('ref', 'table', 'given') else 'tt' for n, kind, _ in ps])
+        long = tup([self.as_long[n] if kind == 'table' else 'tt' for n, kind, _ in ps])
+        ks, qs = s.ghosts()
+        _, e, m, is_ = law.last
+        u.say(f'suffices ! _ (ends-at 𝓤 H A f.ended stayed (f.clauses 𝓤 H A at-mem run) W (({ks}, {qs}, tt, x, at), tt) {m} {e} {last} {long}) $ says ! {self.about["ends"]} $')
+        u.say('nothing ! $'); u.turn(0, 'tokens')
+        for p in reversed(s.refs):
+            u.fuse('join', 'tokens', 'T-' + p[0], 'tokens')
+        u.say('frame ! $'); u.turn(1)
+        for n, kind, _ in ps:
+            if kind == 'ref':
+                u.say(f'feqI ! (List Val) (ptr-vals {n}) (ptr-vals {n}) refl $'); u.turn(0, 'same')
+                u.fuse('fjoin3', 'o-' + n, 'same', 'obs-' + n, 'bor-' + n)
+        u.say('nothing ! $'); u.turn(0, 'owns')
+        for n, kind, _ in reversed(ps):
+            if kind in ('val', 'slice', 'sref'):
+                u.front('owns'); u.say('nothing ! $'); u.turn(0, 'o-' + n)
+            u.fuse('fjoin', 'owns', ('fin-' if kind in ('table', 'given') else 'o-') + n, 'owns')
+        u.say(s.type(s.fn.result).owned(e, is_)); u.turn(0, 'result'); u.front('owns', 'result'); u.say('done !')
+        kinds = [s.type(law.rows[k - 1]) for k in law.results]
+        alls = ''.join(f'(r{c} : {t.denot}) (w{c} : Val) → Is {t.row} r{c} (w{c} ∷ []) → ' for c, t in enumerate(kinds, 1))
+        return [f'  ends : {alls}ent 𝓤 (⋆ 𝓤 H A {chain(items_)}) (Post {m})', '  ends ' + ' '.join(f'r{c} w{c} is{c}' for c in range(1, len(kinds) + 1)) + ' =',
+                f'      qed W {chain(items_)} ∵', u.text(6), '']
+
+    def instance(self):
+        """What the law is given, a line each."""
+        s = self.s
+        out = [f'{s.type(t).row} ({t}-known 𝓤 H A W)' for t in self.law.rows]
+        for p in self.ps:
+            n, kind, t = p
+            ty = s.type(t)
+            mir = ty.mir if ty.struct else f'(tyInt {walk.WIDTH[t]})'
+            behind = f'(pointee ({ty.row} .written)) {mir}' if ty.struct else f'{mir} {mir}'
+            out.append({'ref': lambda: f'{s.k(n)} {s.q(n)} {n}', 'sref': lambda: f'{s.k(n)} {s.q(n)} {n}', 'val': lambda: f'{mir} {s.machine(p)} {ty.typed(n, n + "-is")}',
+                        'given': lambda: f'{behind} ({n} .ptr .0) ({n} .ptr .1)'}.get(kind, lambda: f'{behind} ({n} .ptr .0) ({n} .ptr .1) (length ({n} .now)) ({n}-is .0 .1 .0)')())
+        out.append(' '.join(f'#{g.dash}' for g in self.calls) + (f' (⋆ 𝓤 H A {chain([self.item[x] for x in self.lent])}) (mean 𝓤 H A ({self.tokens}))' if self.lent else ''))
+        every = range(len(self.calls))
+        out += [f'(λ {"".join(f"r{j} " for j in self.law.mets[c][0])}r{c + 1}. {self.left(c)})' for c in every]
+        return out + ['Post'] + [self.met(c) for c in every] + ['ends']
+
+    def text(self):
+        s, calls = self.s, self.calls
+        names = ' '.join(f'known{j}' for j in range(1, len(calls) + 1))
+        known = lambda c, g: f'Triple 𝓤 ({c} #{g.dash}) ({g.dash}′C 𝓤 H A at-mem run)'
+        o = ['abbrev stayed : Stays (f.ended .signature .params) (f.ended .kept)', 'stayed = ' + tup([s.stays(p, 'gave-slice') for p in self.ps]), '']
+        for g in calls:
+            o += [f'-- the contract of `{g.name}`', f'abbrev {g.dash}′C : {walk.SIG} {walk.MEM} → Contract 𝓤',
+                  f'{g.dash}′C 𝓤 H A at-mem run = tripleOf 𝓤 H A {g.dash}′.signature ({g.dash}′.spec 𝓤 H A at-mem run)', '']
+        o += walk.section(s, ['ref', 'sref', 'given']) + self.ends()
+        o += ['  module _ (C : Calls 𝓤 H) (Λ : Loops 𝓤 H) (fm : FmC 𝓤 H (W .laws) C) ' + ' '.join(f'(known{j} : {known("C", g)})' for j, g in enumerate(calls, 1)) + ' where']
+        w = self.begins()
+        w.say(f'by ! ({self.walk_name} 𝓤 H A W C Λ fm\n' + '\n'.join('            ' + x for x in self.instance()) + ')')
+        o += walk.walk_head(s, 4) + [w.text(8), '']
+        o += walk.tail(s, 'C Λ', '(C : Calls 𝓤 H) (Λ : Loops 𝓤 H)', 'C', 'Λ', ' → '.join(known('C', g) for g in calls), ' → '.join(known('𝓣 .C', g) for g in calls), names,
+                       ['ref', 'sref', 'given'], '(𝓣 .C) (𝓣 .Λ)', calls)
+        text = '\n'.join(o)
+        for g in calls:
+            text = text.replace(f'code.calls-{g.crate}·{g.dash} ', f'code.calls-{g.crate}·{g.key} ')
+        return text
+
+    def uses(self, text):
+        s, name = self.s, self.s.fn.name
+        f = imports(text) + ['use denote.Struct.Laws as LL']
+        for t in sorted(s.types.values(), key=lambda t: t.name):
+            if t.struct and f'{t.name}′' in text:
+                f += [f'use {home(t.crate, "specs")}.declared.{t.name}.{{{t.name}}}'] * walk.used(t.denot, text)
+                f += [f'use {home(t.crate, "proofs")}.{t.name} as {t.name}′'] * (f'{t.name}′.' in text) + [f'use {home(t.crate, "proofs")}.{t.name}.Laws as {t.name}′l'] * (f'{t.name}′l.' in text)
+        mine = home(CRATE, 'proofs')
+        f += [f'use {mine}.Known.{{{", ".join(t + "-known" for t in self.law.rows)}}}', f'use {mine}.Walks.{module_of(self.walk_name)}.{{{self.walk_name}}}']
+        f += cited(self.calls) + self.about.get('uses', [])
+        for g in self.calls:
+            m = f'{home(g.crate, "proofs")}.{g.path}'
+            f += [f'use {m} as {g.dash}′', f'use {m}.Symbol as {g.dash}′def', f'use {m}.Symbol.{{name as #{g.dash}}}', f'use {m}.Met as {g.dash}′thm']
+        return f + [f'use {mine}.{name}.Key.{{name as #f}}', f'use {mine}.{name} as f', f'use {mine}.{name}.Statement as stated', f'use {mine}.{name}.Code as code', '']
+
+
+def prove(name, about):
+    x = Instance(name, about)
+    text = x.text()
     path = f'crates/{CRATE}/proofs/{name}/Proof.antt'
     os.makedirs(os.path.dirname(path), exist_ok=True)
-    open(path, 'w').write('\n'.join(f) + '\n' + text + '\n')
-    print('wrote', path, 'by', walk_name)
+    open(path, 'w').write('\n'.join([f'-- `{name}`: {about["head"]} Written by tools/ctrack.py.'] + x.uses(text)) + '\n' + text + '\n')
+    print('wrote', path, 'by', x.walk_name)
 
 
 # ---- what is known of the types
@@ -703,13 +754,12 @@ def write_known():
         body += [f'  abbrev pub {t.name}-known : Known 𝓤 H A {t.row}', f'  {t.name}-known = record {{'] + [f'    {n} = {v};' for n, v in f.items()] + ['  }', '']
     text = RECORD + '\n'.join(body)
     known = IMPORTS + 'mir.Val: ofZ\ndenote.Laws: Tells Makes Copy\ndenote.Plain: uint-copy\ndenote.Signed: sint-copy\n'
-    head = [l for l in imports(text, known)] + ['use denote.Struct.Laws as LL']
+    head = imports(text, known) + ['use denote.Struct.Laws as LL']
     for t in types:
         if t.struct:
-            home = f'Rattle.{t.crate}.proofs' if t.crate == CRATE else f'Rattle.{t.crate}.proofs'
-            head += [f'use {home}.{t.name} as {t.name}′', f'use {home}.{t.name}.Laws as {t.name}′l']
+            head += [f'use {home(t.crate, "proofs")}.{t.name} as {t.name}′', f'use {home(t.crate, "proofs")}.{t.name}.Laws as {t.name}′l']
     open(f'crates/{CRATE}/proofs/Known.antt', 'w').write(KNOWN + '\n'.join(head) + '\n\n' + text.rstrip() + '\n')
-    modules = sorted(n.title().replace('-', '') for n, _ in LAWS.values())
+    modules = sorted(module_of(n) for n, _ in LAWS.values())
     open(f'crates/{CRATE}/proofs/Walks.antt', 'w').write(''.join(f'pub mod {m}\n' for m in modules))
     for f in os.listdir(f'crates/{CRATE}/proofs/Walks'):
         if f.removesuffix('.antt') not in modules:
