@@ -306,6 +306,8 @@ _Static_assert(offsetof(dollavir_on_cycle_time, length) == 8, "dollavir_on_cycle
 _Static_assert(offsetof(dollavir_on_cycle_time, values) == 16, "dollavir_on_cycle_time.values");
 #endif
 
+/* ---- a new track, a budget, an empty cycle record ---- */
+
 /* A track at time 0 with nothing set; the channel is clamped to 0..15. Refuses 4, and then hands back a track of
    timebase 0, which no call takes. */
 dollavir_track_answer dollavir_track_new(int32_t timebase, int32_t channel);
@@ -315,6 +317,8 @@ dollavir_budget dollavir_budget_new(uint32_t seed, uint32_t maximum);
 
 /* What an unused place of a table of cycles holds. */
 dollavir_cycle dollavir_cycle_none(void);
+
+/* ---- the track's own numbers ---- */
 
 /* Where the track stands: the time of what is written next. Refuses 4. */
 uint32_t dollavir_set_timepos(dollavir_track *track, int64_t timepos);
@@ -328,7 +332,9 @@ uint32_t dollavir_set_cc_on_time_freq(dollavir_track *track, int32_t freq);
 /* The same of a bend's curve. Refuses 4. */
 uint32_t dollavir_set_pb_on_time_freq(dollavir_track *track, int32_t freq);
 
-/* What is set for a target. Leaves it in `option`, 0 where it refuses. Refuses 2, 4. */
+/* ---- a target's option ---- */
+
+/* What is set for a target. Leaves it in `option`, with nothing set where it refuses. Refuses 2, 4. */
 uint32_t dollavir_get_write_opt(const dollavir_track *track, int32_t target, dollavir_write_option *option);
 
 /* How many steps later a target's events stand. Refuses 2, 4. */
@@ -345,6 +351,8 @@ uint32_t dollavir_clear_range(dollavir_track *track, int32_t target);
 
 /* Whether a target's lists for notes go round, 0 or 1; it reaches the list that is stored too. Refuses 2, 4. */
 uint32_t dollavir_set_repeat(dollavir_track *track, int32_t target, uint32_t on);
+
+/* ---- writes at the track's time ---- */
 
 /* Writes a curve at the track's time: `list` is triples of a low, a high and a length. Answers the new count and
    the budget; the target's events within the curve's length are taken out, the new ones stand behind the others.
@@ -369,6 +377,8 @@ uint32_t dollavir_write_pb_on_time(const dollavir_track *track, int32_t big, con
 uint32_t dollavir_write_sine(const dollavir_track *track, int32_t target, uint32_t shape, int32_t low, int32_t
     high, int32_t len, int32_t times, dollavir_budget *budget, int64_t *events, size_t events_length, size_t
     *count, const uint8_t *store, size_t store_length);
+
+/* ---- what is reserved for a target ---- */
 
 /* Takes out the reservations of a target, of all four kinds. Answers the track. Refuses 1, 2, 4. */
 uint32_t dollavir_remove_reserve(dollavir_track *track, dollavir_cycle *cycles, size_t cycles_length, int32_t
@@ -419,6 +429,8 @@ uint32_t dollavir_remove_cc_on_note(dollavir_track *track, int32_t number);
 /* No wave and no sine stays reserved for a controller; what is of another kind stays. Refuses 2, 4. */
 uint32_t dollavir_remove_cc_on_note_wave(dollavir_track *track, int32_t number);
 
+/* ---- writes at notes and cycles ---- */
+
 /* Writes what a track's lists have for a note that starts at `start`: the events stand behind the list's own, and
    each list that wrote is one further. Answers the count, the budget and the track afterwards. A write that does
    not fit sets the flag and ends the call; else lists that are used up and do not go round are taken out. Refuses
@@ -439,10 +451,14 @@ uint32_t dollavir_write_cc_on_note_wave(const dollavir_track *track, int64_t sta
 uint32_t dollavir_write_cc_on_cycle(const dollavir_track *track, dollavir_cycle *cycles, size_t cycles_length,
     int64_t until, dollavir_budget *budget, int64_t *events, size_t events_length, size_t *count);
 
+/* ---- a controller's value ---- */
+
 /* The value of controller `number` on the track's channel at its time: that of the last such event in list order
    at or before it, or the controller's default. Leaves it in `value`, 0 where it refuses. Refuses 1, 2, 4. */
 uint32_t dollavir_current_cc_value(const dollavir_track *track, int32_t number, const int64_t *events, size_t
     events_length, size_t count, const uint8_t *store, size_t store_length, int64_t *value);
+
+/* ---- the event list ---- */
 
 /* Takes out the bends from `start` to `end`, that time included. Answers the new count; the others keep their
    order, and the places that fall vacant are zeroed. Refuses 1, 4; then the list is left as it is. */
@@ -475,6 +491,8 @@ uint32_t dollavir_play_from(int64_t *events, size_t events_length, size_t *count
    first. */
 uint32_t dollavir_full_cut(int64_t *events, size_t events_length, size_t *count, int64_t cut, const uint8_t
     *store, size_t store_length);
+
+/* ---- the track's parameters and layers ---- */
 
 /* A note's velocity at the track's time, of the curve or cycle that is reserved, or the default; a curve that is
    over goes. Leaves it in `value`, 0 where it refuses. Refuses 4. */
@@ -572,6 +590,8 @@ uint32_t dollavir_clear_param_max(dollavir_track *track, uint32_t which);
 /* Whether a list that is reserved from now on goes round: 0 or 1. Refuses 4. */
 uint32_t dollavir_set_param_repeat(dollavir_track *track, uint32_t which, uint32_t repeat);
 
+/* ---- events ---- */
+
 /* A note of a length and a velocity. Refuses 4. */
 dollavir_made dollavir_event_note(int64_t time, int64_t channel, int64_t number, int64_t len, int64_t vel);
 
@@ -602,6 +622,8 @@ dollavir_made dollavir_event_sysex_raw(int64_t time, int64_t offset, int64_t len
 /* The bytes that an event counts in the budget. Refuses 4 an event that may not be stored beside `store`. */
 uint32_t dollavir_event_bytes(const dollavir_event *event, const uint8_t *store, size_t store_length, size_t
     *bytes);
+
+/* ---- a note parameter of its own ---- */
 
 /* Nothing reserved, no option set. */
 dollavir_note_param dollavir_param_new(void);
@@ -661,6 +683,8 @@ uint32_t dollavir_param_clear_max(dollavir_note_param *param);
 /* Whether a list that is reserved from now on goes round: 0 or 1. Refuses 4. */
 uint32_t dollavir_param_set_repeat(dollavir_note_param *param, uint32_t repeat);
 
+/* ---- velocity layers of their own ---- */
+
 /* One layer, with nothing set. */
 dollavir_layers dollavir_layers_new(void);
 
@@ -689,10 +713,14 @@ uint32_t dollavir_layers_set_v_sub_on_note(dollavir_layers *layers, size_t index
 uint32_t dollavir_layers_apply_v_sub(dollavir_layers *layers, int64_t timepos, int32_t velocity, int64_t
     *value);
 
+/* ---- a cycle over time of its own ---- */
+
 /* The value of a cycle at `timepos`, and in `found` whether it has one: none before the start, and none of a
    cycle without values or with a length of 0 or less. Leaves it in `value`, 0 where it refuses. Refuses 4. */
 uint32_t dollavir_cycle_time_calc(const dollavir_on_cycle_time *cycle, int64_t timepos, uint32_t *found,
     int32_t *value);
+
+/* ---- the kind of a sine ---- */
 
 /* The kind of a sine that a number names, as `write_sine` takes it: 1 and 2 the quarters up and down, any other
    number the full turn, which is 0. Refuses nothing. */

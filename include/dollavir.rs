@@ -332,6 +332,8 @@ const _: () = assert!(core::mem::offset_of!(OnCycleTime, length) == 8);
 const _: () = assert!(core::mem::offset_of!(OnCycleTime, values) == 16);
 
 extern "C" {
+    // ---- a new track, a budget, an empty cycle record
+
     // A track at time 0 with nothing set; the channel is clamped to 0..15. Refuses 4, and then hands back a track
     // of timebase 0, which no call takes.
     pub fn dollavir_track_new(timebase: i32, channel: i32) -> TrackAnswer;
@@ -341,6 +343,8 @@ extern "C" {
 
     // What an unused place of a table of cycles holds.
     pub fn dollavir_cycle_none() -> Cycle;
+
+    // ---- the track's own numbers
 
     // Where the track stands: the time of what is written next. Refuses 4.
     pub fn dollavir_set_timepos(track: *mut Track, timepos: i64) -> u32;
@@ -354,7 +358,9 @@ extern "C" {
     // The same of a bend's curve. Refuses 4.
     pub fn dollavir_set_pb_on_time_freq(track: *mut Track, freq: i32) -> u32;
 
-    // What is set for a target. Leaves it in `option`, 0 where it refuses. Refuses 2, 4.
+    // ---- a target's option
+
+    // What is set for a target. Leaves it in `option`, with nothing set where it refuses. Refuses 2, 4.
     pub fn dollavir_get_write_opt(track: *const Track, target: i32, option: *mut WriteOption) -> u32;
 
     // How many steps later a target's events stand. Refuses 2, 4.
@@ -372,6 +378,8 @@ extern "C" {
     // Whether a target's lists for notes go round, 0 or 1; it reaches the list that is stored too. Refuses 2, 4.
     pub fn dollavir_set_repeat(track: *mut Track, target: i32, on: u32) -> u32;
 
+    // ---- writes at the track's time
+
     // Writes a curve at the track's time: `list` is triples of a low, a high and a length. Answers the new count
     // and the budget; the target's events within the curve's length are taken out, the new ones stand behind the
     // others. Refuses 1, 2, 3, 4, 7.
@@ -387,6 +395,8 @@ extern "C" {
     // full turn, 1 and 2 for the quarter up and down. Answers and leaves as `write_on_time`; a length of 0 or
     // less changes nothing, times of 0 or less count once. Refuses 1, 2, 4, 7.
     pub fn dollavir_write_sine(track: *const Track, target: i32, shape: u32, low: i32, high: i32, len: i32, times: i32, budget: *mut Budget, events: *mut i64, events_length: usize, count: *mut usize, store: *const u8, store_length: usize) -> u32;
+
+    // ---- what is reserved for a target
 
     // Takes out the reservations of a target, of all four kinds. Answers the track. Refuses 1, 2, 4.
     pub fn dollavir_remove_reserve(track: *mut Track, cycles: *mut Cycle, cycles_length: usize, target: i32) -> u32;
@@ -428,6 +438,8 @@ extern "C" {
     // No wave and no sine stays reserved for a controller; what is of another kind stays. Refuses 2, 4.
     pub fn dollavir_remove_cc_on_note_wave(track: *mut Track, number: i32) -> u32;
 
+    // ---- writes at notes and cycles
+
     // Writes what a track's lists have for a note that starts at `start`: the events stand behind the list's own,
     // and each list that wrote is one further. Answers the count, the budget and the track afterwards. A write
     // that does not fit sets the flag and ends the call; else lists that are used up and do not go round are
@@ -445,10 +457,14 @@ extern "C" {
     // Refuses 1, 4, 7; then all that was lent is left.
     pub fn dollavir_write_cc_on_cycle(track: *const Track, cycles: *mut Cycle, cycles_length: usize, until: i64, budget: *mut Budget, events: *mut i64, events_length: usize, count: *mut usize) -> u32;
 
+    // ---- a controller's value
+
     // The value of controller `number` on the track's channel at its time: that of the last such event in list
     // order at or before it, or the controller's default. Leaves it in `value`, 0 where it refuses. Refuses 1, 2,
     // 4.
     pub fn dollavir_current_cc_value(track: *const Track, number: i32, events: *const i64, events_length: usize, count: usize, store: *const u8, store_length: usize, value: *mut i64) -> u32;
+
+    // ---- the event list
 
     // Takes out the bends from `start` to `end`, that time included. Answers the new count; the others keep their
     // order, and the places that fall vacant are zeroed. Refuses 1, 4; then the list is left as it is.
@@ -475,6 +491,8 @@ extern "C" {
     // The same with the bends: those from `cut` on are kept, and the last before it is folded. What is folded
     // stands first.
     pub fn dollavir_full_cut(events: *mut i64, events_length: usize, count: *mut usize, cut: i64, store: *const u8, store_length: usize) -> u32;
+
+    // ---- the track's parameters and layers
 
     // A note's velocity at the track's time, of the curve or cycle that is reserved, or the default; a curve that
     // is over goes. Leaves it in `value`, 0 where it refuses. Refuses 4.
@@ -567,6 +585,8 @@ extern "C" {
     // Whether a list that is reserved from now on goes round: 0 or 1. Refuses 4.
     pub fn dollavir_set_param_repeat(track: *mut Track, which: u32, repeat: u32) -> u32;
 
+    // ---- events
+
     // A note of a length and a velocity. Refuses 4.
     pub fn dollavir_event_note(time: i64, channel: i64, number: i64, len: i64, vel: i64) -> Made;
 
@@ -593,6 +613,8 @@ extern "C" {
 
     // The bytes that an event counts in the budget. Refuses 4 an event that may not be stored beside `store`.
     pub fn dollavir_event_bytes(event: *const Event, store: *const u8, store_length: usize, bytes: *mut usize) -> u32;
+
+    // ---- a note parameter of its own
 
     // Nothing reserved, no option set.
     pub fn dollavir_param_new() -> NoteParam;
@@ -649,6 +671,8 @@ extern "C" {
     // Whether a list that is reserved from now on goes round: 0 or 1. Refuses 4.
     pub fn dollavir_param_set_repeat(param: *mut NoteParam, repeat: u32) -> u32;
 
+    // ---- velocity layers of their own
+
     // One layer, with nothing set.
     pub fn dollavir_layers_new() -> Layers;
 
@@ -673,9 +697,13 @@ extern "C" {
     // advanced. Leaves it in `value`, 0 where it refuses. Refuses 4.
     pub fn dollavir_layers_apply_v_sub(layers: *mut Layers, timepos: i64, velocity: i32, value: *mut i64) -> u32;
 
+    // ---- a cycle over time of its own
+
     // The value of a cycle at `timepos`, and in `found` whether it has one: none before the start, and none of a
     // cycle without values or with a length of 0 or less. Leaves it in `value`, 0 where it refuses. Refuses 4.
     pub fn dollavir_cycle_time_calc(cycle: *const OnCycleTime, timepos: i64, found: *mut u32, value: *mut i32) -> u32;
+
+    // ---- the kind of a sine
 
     // The kind of a sine that a number names, as `write_sine` takes it: 1 and 2 the quarters up and down, any
     // other number the full turn, which is 0. Refuses nothing.

@@ -208,7 +208,7 @@ class Export:
         c = self.g.comment
         for n in ('value', 'option', 'bytes', 'limited'):
             if dict(self.params).get(n, '').startswith('&mut'):
-                c = re.sub(r' (Refuses [\d, ]+\.)', rf' Leaves it in `{n}`, 0 where it refuses. \1', c)
+                c = re.sub(r' (Refuses [\d, ]+\.)', rf' Leaves it in `{n}`, {"with nothing set" if n == "option" else "0"} where it refuses. \1', c)
         if self.g.name == 'split_note_off':
             c = c.replace('and answers how many they are', 'and leaves their number in `out_count`').replace('then all of `out` is left as it is', 'then all of `out` is left as it is, and `out_count` is `count`')
         return wrapped(c)
@@ -293,10 +293,7 @@ HEAD = '''// The calls as a C program makes them, by the names of docs/API.md af
 // that it reads by `&`; what a call answers besides its number goes to where its last parameters point. The number is that of
 // document 01's table. Refused, all that is lent stays as it is, and what is answered besides the number is 0. Written by tools/ctrack.py.
 '''
-OWN_USES = '''ghost use Rattle.sines.specs.Kinds.{sineType};
-ghost use Rattle.reserved.specs.Cycle.{said, calcOf};
-ghost use Rattle.reserving.specs.Old.{normal};
-ghost use Rattle.ctrack.specs.Kinds.{shapeOf, toldOf};'''
+OWN_CITES = {'Rattle.reserving.specs.Old': ['normal'], 'Rattle.sines.specs.Kinds': ['sineType'], 'Rattle.reserved.specs.Cycle': ['said', 'calcOf'], 'Rattle.ctrack.specs.Kinds': ['shapeOf', 'toldOf']}
 OWN = '''// What the setters of a controller or a bend hand to those of a target: a wave as it is, and the code of the bends.
 fn as_it_is() -> u32
     ensures { λ r. ⌜ r ≡ normal ⌝ }
@@ -360,11 +357,15 @@ pub extern "C" fn dollavir_sine_type(v: i32) -> u32
 '''
 
 
+def ghost_uses(modules):
+    return [f'ghost use {m}.{{{", ".join(names)}}};' for m, names in modules.items()]
+
+
 def source():
     path = 'crates/ctrack/src/lib.rt'
-    if not os.path.exists(path) or OWN_USES not in open(path).read():
+    if not os.path.exists(path) or 'fn cycle_time_calc' not in open(path).read():
         os.makedirs(os.path.dirname(path), exist_ok=True)
-        open(path, 'w').write(OWN_USES + '\n' + OWN)  # what the table's last call is read from
+        open(path, 'w').write('\n'.join(ghost_uses(OWN_CITES) + [OWN]))  # what the table's last call is read from
     sections = exports()
     every = [x for _, xs in sections for x in xs]
     lent = [x for x in every if x.fields]
@@ -382,8 +383,9 @@ def source():
     types = set(re.findall(r'[A-Z]\w*', ' '.join(t for x in every for _, t in x.params)))
     types |= {x.g.owner for x in every if x.g.owner} | {x.result for x in every if x.g.crate not in ALONE}
     out = [HEAD + 'ghost use mathlib.Core.Path.{_≡_};', 'ghost use lib.IntN.{pos};']
-    out += [f'ghost use {m}.{{{", ".join(ns)}}};' for m, ns in uses.items() if f'ghost use {m}.{{{ns[0]}' not in OWN_USES and m not in ('Rattle.reserved.specs.Cycle', 'Rattle.ctrack.specs.Kinds')]
-    out += [OWN_USES, f'ghost use Rattle.ctrack.specs.Lent.{{{", ".join(records)}}};']
+    for module, names in OWN_CITES.items():
+        uses[module] = list(dict.fromkeys(uses.get(module, []) + names))
+    out += ghost_uses(uses) + ghost_uses({'Rattle.ctrack.specs.Lent': records})
     out += sorted([f'use {HOME[t]}::{t};' for t in types if HOME[t] != 'ctrack'] + ['use reserved::CycleValue;', 'use sines::SineType;', 'use values::widened;'])
     out += ['', '// The parts of what a call by value answers.']
     for a, f in dict.fromkeys((x.result, f) for x in lent if x.g.crate not in ALONE for f in x.stores + ['code']):

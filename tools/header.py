@@ -24,13 +24,15 @@ def crates():
 
 
 class Library:
-    """The exported functions, as (name, comment, parameters, result), and the structs that their types reach, inner ones first."""
+    """The exported functions, as (name, comment, parameters, result), the title that some stand under, and the structs that their
+    types reach, inner ones first."""
     def __init__(self):
         text = source(CRATE)
         shape = r'((?:^//[^\n]*\n)+)#\[no_mangle\]\npub extern "C" fn (\w+)\((.*?)\)(?: -> (\w+))?\s*\n'
-        self.functions = []
+        self.functions, self.titles = [], {}
         for comment, name, params, result in re.findall(shape, text, re.S | re.M):
             lines = [l.removeprefix('//').strip() for l in comment.strip().split('\n') if not l.startswith('// ----')]
+            self.titles[name] = [l.removeprefix('// ---- ') for l in comment.split('\n') if l.startswith('// ----')]
             ps = [tuple(x.strip() for x in p.split(':')) for p in re.split(r',(?![^\[]*\])', params) if p.strip()]
             self.functions.append((name, ' '.join(lines), ps, result))
         self.homes = {s: c for c, s in re.findall(r'^use (\w+)::([A-Z][a-z]\w*);', text, re.M)}
@@ -121,7 +123,7 @@ def c_header(lib):
             if m[2]:
                 args.append(f'size_t {n}_length')
         lines = wrapped(f'{c_type(result) if result else "void"} {name}({", ".join(args) or "void"});', '')
-        out += comment(about) + [lines[0]] + ['    ' + l for l in lines[1:]] + ['']
+        out += [f'/* ---- {t} ---- */\n' for t in lib.titles.get(name, [])] + comment(about) + [lines[0]] + ['    ' + l for l in lines[1:]] + ['']
     return '\n'.join(out + ['#ifdef __cplusplus', '}', '#endif', '', '#endif', ''])
 
 
@@ -153,7 +155,7 @@ def rust(lib):
             args.append(f'{n}: *{"mut" if m[1] else "const"} {m[2] or m[3]}')
             if m[2]:
                 args.append(f'{n}_length: usize')
-        out += wrapped(about, '    //', 114) + [f'    pub fn {name}({", ".join(args)})' + (f' -> {result}' if result else '') + ';', '']
+        out += [f'    // ---- {t}\n' for t in lib.titles.get(name, [])] + wrapped(about, '    //', 114) + [f'    pub fn {name}({", ".join(args)})' + (f' -> {result}' if result else '') + ';', '']
     return '\n'.join(out[:-1] + ['}', ''])
 
 

@@ -11,7 +11,7 @@ ghost use Rattle.params.specs.Calls.{setDelay as paramsSetDelay, setRandom as p
 ghost use lib.ListN.{length};
 ghost use Rattle.drawing.specs.Calls.{onTime, drawAnswer, drawLeft, ccTarget, pbTarget, sineFor, onSine};
 ghost use Rattle.reserving.specs.Setting.{removeReserve, setOnNote, setOnNoteWave, setOnNoteSine, setOnCycle};
-ghost use Rattle.reserving.specs.Old.{removeCcOn, setCcOnNote, setCcOnNoteWave, setPbOnNoteWave, removePbOnNoteWave, removeCcOnNote, removeCcOnNoteWave};
+ghost use Rattle.reserving.specs.Old.{removeCcOn, setCcOnNote, setCcOnNoteWave, setPbOnNoteWave, removePbOnNoteWave, removeCcOnNote, removeCcOnNoteWave, normal};
 ghost use Rattle.noting.specs.Calls.{noted, listLeft};
 ghost use Rattle.waving.specs.Calls.{noteWritten, noteLeft};
 ghost use Rattle.cycling.specs.Calls.{cycledOf, cycledList};
@@ -26,10 +26,9 @@ ghost use Rattle.layers.specs.Calls.{setVSub, setVSubRandom, setVSubOnTime, set
 ghost use Rattle.events.specs.Events.{noteEvent, made, voiceEvent, madeCc, pitchBendEvent, pitchBendRangeEvent, metaEvent, directSmfEvent, sysexEvent, sizeOf};
 ghost use Rattle.params.specs.Param.{fresh};
 ghost use Rattle.layers.specs.Layers.{oneLayer};
+ghost use Rattle.reserved.specs.Cycle.{calcOf, said};
+ghost use Rattle.ctrack.specs.Kinds.{toldOf, shapeOf};
 ghost use Rattle.sines.specs.Kinds.{sineType};
-ghost use Rattle.reserved.specs.Cycle.{said, calcOf};
-ghost use Rattle.reserving.specs.Old.{normal};
-ghost use Rattle.ctrack.specs.Kinds.{shapeOf, toldOf};
 ghost use Rattle.ctrack.specs.Lent.{TrackLeft, OptionTold, Written, Reserved, NoteWritten, CycleWritten, CcTold, ListLeft, ValueLeft, VelocityLeft, SizeTold, ParamLeft, ParamTold, ParamTaken, LayersLeft, LayersSum, TimeTold};
 use budget::Budget;
 use cutting::CcValue;
@@ -417,7 +416,7 @@ pub extern "C" fn dollavir_set_pb_on_time_freq(track: &mut Track, freq: i32) -> 
 }
 
 // ---- a target's option
-// What is set for a target. Leaves it in `option`, 0 where it refuses. Refuses 2, 4.
+// What is set for a target. Leaves it in `option`, with nothing set where it refuses. Refuses 2, 4.
 #[no_mangle]
 pub extern "C" fn dollavir_get_write_opt(
     track: &Track,
