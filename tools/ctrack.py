@@ -291,7 +291,7 @@ def exports():
 
 HEAD = '''// The calls as a C program makes them, by the names of docs/API.md after `dollavir_`. A record that a call changes is lent by `&mut`, one
 // that it reads by `&`; what a call answers besides its number goes to where its last parameters point. The number is that of
-// document 01's table. Refused, all that is lent stays as it is, and what is answered besides the number is 0. Written by tools/ctrack.py.
+// document 01's table. Refused, all that is lent stays as it is, and a value that is answered is 0. Written by tools/ctrack.py.
 '''
 OWN_CITES = {'Rattle.reserving.specs.Old': ['normal'], 'Rattle.sines.specs.Kinds': ['sineType'], 'Rattle.reserved.specs.Cycle': ['said', 'calcOf'], 'Rattle.ctrack.specs.Kinds': ['shapeOf', 'toldOf']}
 OWN = '''// What the setters of a controller or a bend hand to those of a target: a wave as it is, and the code of the bends.

@@ -1,6 +1,6 @@
 // The calls as a C program makes them, by the names of docs/API.md after `dollavir_`. A record that a call changes is lent by `&mut`, one
 // that it reads by `&`; what a call answers besides its number goes to where its last parameters point. The number is that of
-// document 01's table. Refused, all that is lent stays as it is, and what is answered besides the number is 0. Written by tools/ctrack.py.
+// document 01's table. Refused, all that is lent stays as it is, and a value that is answered is 0. Written by tools/ctrack.py.
 ghost use mathlib.Core.Path.{_≡_};
 ghost use lib.IntN.{pos};
 ghost use Rattle.state.specs.Calls.{newOf, setTimepos, setChannel, setCcFreq, setPbFreq};
