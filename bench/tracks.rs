@@ -306,6 +306,9 @@ pub fn speeds() {
         let events = list(count, Order::Rising);
         let from = count as isize * STEP / 2;
         curve_case("write_cc_on_time, 32 triples of 12 steps", &events, from, 12, ROOM);
+        if count > 0 {
+            curve_case("the same, with room for 200 events alone", &events, from, 12, 200);
+        }
         curve_case("write_cc_on_time, 32 triples of 3,000 steps", &events, from, 3000, 100_000);
     }
     curve_case("the same, with room for 4,096 events alone", &[], 0, 3000, 4096);
