@@ -12,34 +12,40 @@ pub fn line(desk: &Desk, step: &Step, reply: &Reply) -> String {
     for answer in &reply.answers {
         write!(text, " {answer}").unwrap();
     }
-    for section in sections(step).chars() {
-        let numbers = match section {
-            'E' => list(&desk.list),
-            'R' => list(&reply.result),
-            'B' => vec![desk.budget.seed, desk.budget.maximum, desk.budget.used, desk.budget.flag],
-            'T' => track(desk),
-            'O' => options(desk),
-            'P' if step.op / 100 == 4 => param(desk.params()[step.args[0] as usize]),
-            'P' => desk.params().into_iter().flat_map(param).collect(),
-            'L' => layers(&desk.track),
-            'N' => notes(&desk.track),
-            'W' => waves(&desk.track),
-            'S' => sines(&desk.track),
-            _ => cycles(&desk.track),
-        };
+    for letter in sections(step).chars() {
+        let numbers = section(desk, step, reply, letter);
         if desk.full {
-            write!(text, "\n{section}").unwrap();
+            write!(text, "\n{letter}").unwrap();
             for number in numbers {
                 write!(text, " {number}").unwrap();
             }
         } else {
-            write!(text, " {section} {}", digest(&numbers)).unwrap();
+            write!(text, " {letter} {}", digest(&numbers)).unwrap();
         }
     }
     text
 }
 
-fn sections(step: &Step) -> &'static str {
+/// The numbers of one section after the call.
+pub fn section(desk: &Desk, step: &Step, reply: &Reply, letter: char) -> Vec<i64> {
+    match letter {
+        'E' => list(&desk.list),
+        'R' => list(&reply.result),
+        'B' => vec![desk.budget.seed, desk.budget.maximum, desk.budget.used, desk.budget.flag],
+        'T' => track(desk),
+        'O' => options(desk),
+        'P' if step.op / 100 == 4 => param(desk.params()[step.args[0] as usize]),
+        'P' => desk.params().into_iter().flat_map(param).collect(),
+        'L' => layers(&desk.track),
+        'N' => notes(&desk.track),
+        'W' => waves(&desk.track),
+        'S' => sines(&desk.track),
+        _ => cycles(&desk.track),
+    }
+}
+
+/// The letters of the sections that a call shows.
+pub fn sections(step: &Step) -> &'static str {
     match step.op {
         306 => "ER",
         418 => "",
@@ -65,7 +71,7 @@ pub fn digest(numbers: &[i64]) -> u32 {
     })
 }
 
-fn list(records: &[Record]) -> Vec<i64> {
+pub fn list(records: &[Record]) -> Vec<i64> {
     let mut out = vec![records.len() as i64];
     for record in records {
         out.extend(&record[..6]);
