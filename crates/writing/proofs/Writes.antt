@@ -1,16 +1,13 @@
--- What a call over pieces leaves, told of the pieces that it is over; and the flag that a cut wave sets besides.
-use mathlib.Core.Path.{_≡_, sym, ap, _∙_, subst}
-use mathlib.Core.Bool.{Bool, cond}
+-- What a call over pieces leaves, told of the pieces that it is over.
+use mathlib.Core.Path.{_≡_, ap, _∙_, subst}
 use mathlib.Core.List.{List, [], _∷_}
 use Prim.Native.Nat.{ℕ}
-use borrow.Author.Tests.{eq-eqb, ne-eqb}
 use Rattle.budget.specs.declared.Budget.{Budget}
 use Rattle.events.specs.declared.Event.{Event}
 use Rattle.values.specs.declared.Write.{Write}
 use Rattle.offers.specs.declared.Piece.{Piece}
 use Rattle.offers.specs.declared.Source.{Source}
 use Rattle.offers.specs.declared.Mode.{Mode}
-use Rattle.offers.specs.Rules.{flagged}
 use Rattle.offers.specs.Waves.{triplesOf}
 use Rattle.offers.specs.Sources.{startingAt}
 use Rattle.offers.proofs.Starting.{start-gives}
@@ -18,7 +15,6 @@ use Rattle.writing.specs.declared.Outcome.{Outcome}
 use Rattle.writing.specs.declared.Origin.the-variants.{Wave, Sine}
 use Rattle.writing.specs.Origins.{piecesOf}
 use Rattle.writing.specs.Calls.{outcomeFor, rowsFor}
-use Rattle.writing.specs.Waves.{flaggedOutcome}
 
 abbrev pub Leaves : Write → Budget → List Event → ℕ → Outcome → List Event → List Piece → Type 0
 Leaves w b R count r R′ ts = (r ≡ outcomeFor w b ts R count) × (R′ ≡ rowsFor w b ts R count)
@@ -34,13 +30,3 @@ wave-gives m ts n e = ap (λ (x : Source). piecesOf ts (Wave x)) e ∙ start-giv
 pub sine-gives : (ts : List Piece) (t : Piece) {p : Piece} → p ≡ t → piecesOf ts (Sine p) ≡ t ∷ []
 unfolding piecesOf
 sine-gives ts t e = ap (λ (x : Piece). x ∷ []) e
-
--- a refusal stays as it is
-pub refused : (r x : Outcome) (t : Bool) → r ≡ x → r .code ≡ 7 → r ≡ flaggedOutcome x t
-refused r x t e c = sym (ap (λ (b : Bool). cond b r (record { code = r .code; count = r .count; budget = flagged (r .budget) t })) (eq-eqb (r .code) 7 c)) ∙ ap (λ (y : Outcome). flaggedOutcome y t) e
-
-pub accepted : (r x : Outcome) (t : Bool) {b : Budget} → r ≡ x → (r .code ≡ 7 → ⊥) → b ≡ flagged (r .budget) t → record { code = r .code; count = r .count; budget = b } ≡ flaggedOutcome x t
-accepted r x t e c d =
-    ap (λ (y : Budget). record { code = r .code; count = r .count; budget = y }) d
-    ∙ sym (ap (λ (b : Bool). cond b r (record { code = r .code; count = r .count; budget = flagged (r .budget) t })) (ne-eqb (r .code) 7 c))
-    ∙ ap (λ (y : Outcome). flaggedOutcome y t) e

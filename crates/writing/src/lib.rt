@@ -21,7 +21,7 @@ ghost use Rattle.offers.specs.Waves.{triples, triplesOf};
 ghost use Rattle.offers.specs.Sources.{restOf, Runs, Fine};
 ghost use Rattle.writing.specs.Origins.{piecesOf, Asked};
 ghost use Rattle.writing.specs.Calls.{windowOf, newEventsFor, lacksRoomFor, outcomeFor, rowsFor};
-ghost use Rattle.writing.specs.Waves.{cutBy, waveTriples, waveOutcome, waveRows};
+ghost use Rattle.writing.specs.Waves.{cutBy, waveTriples};
 ghost use Rattle.writing.specs.Figures.{budgetFor, addedTo, Shaped};
 ghost use Rattle.writing.specs.Sines.{sinePiece, sinePieces};
 use budget::Budget;
@@ -451,34 +451,6 @@ fn is_cut(mode: Mode, n: u64, limit: u64) -> bool
         Mode::Normal => false,
         Mode::Expand => limit < n,
         Mode::Repeat => limit < n,
-    }
-}
-
-// A wave over a note of `n` steps, in any mode. `n` is cut to the step budget; where it is cut, the flag is set.
-pub fn write_wave(
-    w: Write,
-    b: Budget,
-    mode: Mode,
-    numbers: &[i32],
-    n: u64,
-    events: &mut [i64],
-    count: usize,
-) -> Outcome
-    requires { ⌜ Ready w × Fine (now numbers) × (b .maximum ≤ 2 ^ 26) × (count ≤ length (rowsOf (now events))) ⌝ }
-    ensures { λ r. ⌜ (r ≡ waveOutcome w b mode (triples (now (numbers .entry))) n (rowsOf (now (events .entry))) count)
-        × (rowsOf (now (events .exit)) ≡ waveRows w b mode (triples (now (numbers .entry))) n (rowsOf (now (events .entry))) count) ⌝ }
-{
-    let limit = budget::safe_iteration_limit(b) as u64;
-    let steps = least(n, limit);
-    let r = write_triples(w, b, mode, numbers, steps, events, count);
-    if r.code == 7 {
-        return r;
-    }
-    let after = r.budget;
-    Outcome {
-        code: r.code,
-        count: r.count,
-        budget: flag_if(after, is_cut(mode, n, limit)),
     }
 }
 
