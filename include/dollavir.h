@@ -357,37 +357,37 @@ uint32_t dollavir_set_repeat(dollavir_track *track, int32_t target, uint32_t on)
 /* Writes a curve at the track's time: `list` is triples of a low, a high and a length. Answers the new count and
    the budget; the target's events within the curve's length are taken out, the new ones stand behind the others.
    Refuses 1, 2, 3, 4, 7. */
-uint32_t dollavir_write_on_time(const dollavir_track *track, int32_t target, const int32_t *list, size_t
-    list_length, dollavir_budget *budget, int64_t *events, size_t events_length, size_t *count, const uint8_t
-    *store, size_t store_length);
+uint32_t dollavir_write_on_time(const dollavir_track *track, int32_t target, const int32_t *list,
+    size_t list_length, dollavir_budget *budget, int64_t *events, size_t events_length, size_t *count,
+    const uint8_t *store, size_t store_length);
 
 /* `write_on_time` of a controller by its number. Refuses 1, 2, 3, 4, 7. */
-uint32_t dollavir_write_cc_on_time(const dollavir_track *track, int32_t number, const int32_t *list, size_t
-    list_length, dollavir_budget *budget, int64_t *events, size_t events_length, size_t *count, const uint8_t
-    *store, size_t store_length);
+uint32_t dollavir_write_cc_on_time(const dollavir_track *track, int32_t number, const int32_t *list,
+    size_t list_length, dollavir_budget *budget, int64_t *events, size_t events_length, size_t *count,
+    const uint8_t *store, size_t store_length);
 
 /* `write_on_time` of the bend. Refuses 1, 3, 4, 7. */
-uint32_t dollavir_write_pb_on_time(const dollavir_track *track, int32_t big, const int32_t *list, size_t
-    list_length, dollavir_budget *budget, int64_t *events, size_t events_length, size_t *count, const uint8_t
-    *store, size_t store_length);
+uint32_t dollavir_write_pb_on_time(const dollavir_track *track, int32_t big, const int32_t *list,
+    size_t list_length, dollavir_budget *budget, int64_t *events, size_t events_length, size_t *count,
+    const uint8_t *store, size_t store_length);
 
 /* Writes a sine at the track's time, `times` turns of `len` steps from `low` to `high`; `shape` is 0 for a full
    turn, 1 and 2 for the quarter up and down. Answers and leaves as `write_on_time`; a length of 0 or less changes
    nothing, times of 0 or less count once. Refuses 1, 2, 4, 7. */
-uint32_t dollavir_write_sine(const dollavir_track *track, int32_t target, uint32_t shape, int32_t low, int32_t
-    high, int32_t len, int32_t times, dollavir_budget *budget, int64_t *events, size_t events_length, size_t
-    *count, const uint8_t *store, size_t store_length);
+uint32_t dollavir_write_sine(const dollavir_track *track, int32_t target, uint32_t shape, int32_t low,
+    int32_t high, int32_t len, int32_t times, dollavir_budget *budget, int64_t *events, size_t events_length,
+    size_t *count, const uint8_t *store, size_t store_length);
 
 /* ---- what is reserved for a target ---- */
 
 /* Takes out the reservations of a target, of all four kinds. Answers the track. Refuses 1, 2, 4. */
-uint32_t dollavir_remove_reserve(dollavir_track *track, dollavir_cycle *cycles, size_t cycles_length, int32_t
-    target);
+uint32_t dollavir_remove_reserve(dollavir_track *track, dollavir_cycle *cycles, size_t cycles_length,
+    int32_t target);
 
 /* Reserves a list of numbers for a target, one for each note, in place of what is reserved for it. Answers the
    track. Refuses 1, 2, 3, 4, 6. */
-uint32_t dollavir_set_on_note(dollavir_track *track, dollavir_cycle *cycles, size_t cycles_length, int32_t
-    target, const int32_t *list, size_t list_length);
+uint32_t dollavir_set_on_note(dollavir_track *track, dollavir_cycle *cycles, size_t cycles_length,
+    int32_t target, const int32_t *list, size_t list_length);
 
 /* Reserves a wave for a target: `list` is triples of a low, a high and a length. Answers the track. Refuses 1, 2,
    3, 4, 6. */
@@ -401,16 +401,16 @@ uint32_t dollavir_set_on_note_sine(dollavir_track *track, dollavir_cycle *cycles
 /* Reserves a cycle of `list` for a target, one number every `len` steps from the track's time on; it comes last
    in the table. A length of 0 or less, or no number, only takes the target's reservations out. Answers the track.
    Refuses 1, 2, 3, 4, 6. */
-uint32_t dollavir_set_on_cycle(dollavir_track *track, dollavir_cycle *cycles, size_t cycles_length, int32_t
-    target, int32_t len, const int32_t *list, size_t list_length);
+uint32_t dollavir_set_on_cycle(dollavir_track *track, dollavir_cycle *cycles, size_t cycles_length,
+    int32_t target, int32_t len, const int32_t *list, size_t list_length);
 
 /* The older calls. `remove_reserve` of a controller. Refuses 1, 2, 4. */
-uint32_t dollavir_remove_cc_on(dollavir_track *track, dollavir_cycle *cycles, size_t cycles_length, int32_t
-    number);
+uint32_t dollavir_remove_cc_on(dollavir_track *track, dollavir_cycle *cycles, size_t cycles_length,
+    int32_t number);
 
 /* `set_on_note` of a controller. Refuses 1, 2, 3, 4, 6. */
-uint32_t dollavir_set_cc_on_note(dollavir_track *track, dollavir_cycle *cycles, size_t cycles_length, int32_t
-    number, const int32_t *list, size_t list_length);
+uint32_t dollavir_set_cc_on_note(dollavir_track *track, dollavir_cycle *cycles, size_t cycles_length,
+    int32_t number, const int32_t *list, size_t list_length);
 
 /* `set_on_note_wave` of a controller, the wave used as it is. Refuses 1, 2, 3, 4, 6. */
 uint32_t dollavir_set_cc_on_note_wave(dollavir_track *track, dollavir_cycle *cycles, size_t cycles_length,
@@ -435,8 +435,8 @@ uint32_t dollavir_remove_cc_on_note_wave(dollavir_track *track, int32_t number);
    each list that wrote is one further. Answers the count, the budget and the track afterwards. A write that does
    not fit sets the flag and ends the call; else lists that are used up and do not go round are taken out. Refuses
    1, 4, 7; then all is left as it is. */
-uint32_t dollavir_write_cc_on_note(dollavir_track *track, int64_t start, dollavir_budget *budget, int64_t
-    *events, size_t events_length, size_t *count);
+uint32_t dollavir_write_cc_on_note(dollavir_track *track, int64_t start, dollavir_budget *budget,
+    int64_t *events, size_t events_length, size_t *count);
 
 /* Writes the waves and then the sines that are reserved for the track's notes, over a note from `start` to the
    track's time; they stop once the flag is set. Answers the count of events and the budget after them, and leaves
@@ -455,15 +455,15 @@ uint32_t dollavir_write_cc_on_cycle(const dollavir_track *track, dollavir_cycle 
 
 /* The value of controller `number` on the track's channel at its time: that of the last such event in list order
    at or before it, or the controller's default. Leaves it in `value`, 0 where it refuses. Refuses 1, 2, 4. */
-uint32_t dollavir_current_cc_value(const dollavir_track *track, int32_t number, const int64_t *events, size_t
-    events_length, size_t count, const uint8_t *store, size_t store_length, int64_t *value);
+uint32_t dollavir_current_cc_value(const dollavir_track *track, int32_t number, const int64_t *events,
+    size_t events_length, size_t count, const uint8_t *store, size_t store_length, int64_t *value);
 
 /* ---- the event list ---- */
 
 /* Takes out the bends from `start` to `end`, that time included. Answers the new count; the others keep their
    order, and the places that fall vacant are zeroed. Refuses 1, 4; then the list is left as it is. */
-uint32_t dollavir_remove_pitch_bend_in_range(int64_t *events, size_t events_length, size_t *count, int64_t
-    start, int64_t end, const uint8_t *store, size_t store_length);
+uint32_t dollavir_remove_pitch_bend_in_range(int64_t *events, size_t events_length, size_t *count,
+    int64_t start, int64_t end, const uint8_t *store, size_t store_length);
 
 /* Sorts the list by time; events of one time keep their order. Answers 0, or refuses 1, 4; then the list is left
    as it is. */
@@ -478,19 +478,19 @@ uint32_t dollavir_split_note_off(const int64_t *events, size_t events_length, si
 
 /* Puts after each note of the list its end, and answers the new count. Refuses 1, 4, 7; then the list is left as
    it is. */
-uint32_t dollavir_normalize(int64_t *events, size_t events_length, size_t *count, const uint8_t *store, size_t
-    store_length);
+uint32_t dollavir_normalize(int64_t *events, size_t events_length, size_t *count, const uint8_t *store,
+    size_t store_length);
 
 /* Cuts off what is before `cut`: the events that are kept count their time from it, and after them stand, at time
    0, the controllers and the program as they were. Answers the new count; the places that fall vacant are zeroed.
    Refuses 1, 4; then the list is left as it is. */
-uint32_t dollavir_play_from(int64_t *events, size_t events_length, size_t *count, int64_t cut, const uint8_t
-    *store, size_t store_length);
+uint32_t dollavir_play_from(int64_t *events, size_t events_length, size_t *count, int64_t cut,
+    const uint8_t *store, size_t store_length);
 
 /* The same with the bends: those from `cut` on are kept, and the last before it is folded. What is folded stands
    first. */
-uint32_t dollavir_full_cut(int64_t *events, size_t events_length, size_t *count, int64_t cut, const uint8_t
-    *store, size_t store_length);
+uint32_t dollavir_full_cut(int64_t *events, size_t events_length, size_t *count, int64_t cut,
+    const uint8_t *store, size_t store_length);
 
 /* ---- the track's parameters and layers ---- */
 
@@ -535,18 +535,18 @@ uint32_t dollavir_set_v_sub(dollavir_track *track, size_t index, int32_t velocit
 uint32_t dollavir_set_v_sub_random(dollavir_track *track, size_t index, int32_t random);
 
 /* Reserves a curve for a layer, from the track's time and the velocity parameter's delay on. Refuses 3, 4, 5. */
-uint32_t dollavir_set_v_sub_on_time(dollavir_track *track, size_t index, const int32_t *values, size_t
-    values_length);
+uint32_t dollavir_set_v_sub_on_time(dollavir_track *track, size_t index, const int32_t *values,
+    size_t values_length);
 
 /* Reserves a cycle for a layer, its length and then its values; nothing, where there is no value. Refuses 3, 4,
    5. */
-uint32_t dollavir_set_v_sub_on_cycle(dollavir_track *track, size_t index, const int32_t *args, size_t
-    args_length);
+uint32_t dollavir_set_v_sub_on_cycle(dollavir_track *track, size_t index, const int32_t *args,
+    size_t args_length);
 
 /* Reserves a value of a layer for each of the next notes, round and round where the velocity parameter's repeat
    stands. Refuses 3, 4, 5. */
-uint32_t dollavir_set_v_sub_on_note(dollavir_track *track, size_t index, const int32_t *values, size_t
-    values_length);
+uint32_t dollavir_set_v_sub_on_note(dollavir_track *track, size_t index, const int32_t *values,
+    size_t values_length);
 
 /* A note's velocity at the track's time: the given one and what every layer adds to it. The layers come back
    advanced. Leaves it in `value`, 0 where it refuses. Refuses 4. */
@@ -554,17 +554,17 @@ uint32_t dollavir_apply_v_sub(dollavir_track *track, int32_t velocity, int64_t *
 
 /* The setters of a parameter, `which` by its number; any other number refuses 4. Reserves a curve, low, high and
    length by threes, from the track's time and the parameter's delay on. Refuses 3, 4. */
-uint32_t dollavir_set_param_on_time(dollavir_track *track, uint32_t which, const int32_t *values, size_t
-    values_length);
+uint32_t dollavir_set_param_on_time(dollavir_track *track, uint32_t which, const int32_t *values,
+    size_t values_length);
 
 /* Reserves a cycle, its length and then its values, from there on; nothing, where there is no value. Refuses 3,
    4. */
-uint32_t dollavir_set_param_on_cycle(dollavir_track *track, uint32_t which, const int32_t *args, size_t
-    args_length);
+uint32_t dollavir_set_param_on_cycle(dollavir_track *track, uint32_t which, const int32_t *args,
+    size_t args_length);
 
 /* Reserves a value for each of the next notes, round and round where repeat stands. Refuses 3, 4. */
-uint32_t dollavir_set_param_on_note(dollavir_track *track, uint32_t which, const int32_t *values, size_t
-    values_length);
+uint32_t dollavir_set_param_on_note(dollavir_track *track, uint32_t which, const int32_t *values,
+    size_t values_length);
 
 /* Nothing stays reserved. Refuses 4. */
 uint32_t dollavir_clear_param_reserve(dollavir_track *track, uint32_t which);
@@ -608,20 +608,20 @@ dollavir_made dollavir_event_pitch_bend(int64_t time, int64_t channel, int64_t v
 dollavir_made dollavir_event_pitch_bend_range(int64_t time, int64_t channel, int64_t value);
 
 /* A meta event, its data the `len` bytes of `store` from `offset` on. Refuses 4. */
-dollavir_made dollavir_event_meta(int64_t time, int64_t v1, int64_t v2, int64_t v3, int64_t offset, int64_t
-    len, const uint8_t *store, size_t store_length);
+dollavir_made dollavir_event_meta(int64_t time, int64_t v1, int64_t v2, int64_t v3, int64_t offset,
+    int64_t len, const uint8_t *store, size_t store_length);
 
 /* Bytes of `store` that are written as they stand. Refuses 4. */
 dollavir_made dollavir_event_direct_smf(int64_t time, int64_t offset, int64_t len, const uint8_t *store,
     size_t store_length);
 
 /* A system exclusive message of bytes of `store`. Refuses 4. */
-dollavir_made dollavir_event_sysex_raw(int64_t time, int64_t offset, int64_t len, const uint8_t *store, size_t
-    store_length);
+dollavir_made dollavir_event_sysex_raw(int64_t time, int64_t offset, int64_t len, const uint8_t *store,
+    size_t store_length);
 
 /* The bytes that an event counts in the budget. Refuses 4 an event that may not be stored beside `store`. */
-uint32_t dollavir_event_bytes(const dollavir_event *event, const uint8_t *store, size_t store_length, size_t
-    *bytes);
+uint32_t dollavir_event_bytes(const dollavir_event *event, const uint8_t *store, size_t store_length,
+    size_t *bytes);
 
 /* ---- a note parameter of its own ---- */
 
@@ -635,21 +635,21 @@ uint32_t dollavir_param_clear_reserve(dollavir_note_param *param);
 uint32_t dollavir_param_has_reserve(const dollavir_note_param *param, int32_t *value);
 
 /* Reserves a curve, low, high and length by threes, from `timepos` and the delay on. Refuses 3, 4. */
-uint32_t dollavir_param_set_on_time(dollavir_note_param *param, int64_t timepos, const int32_t *values, size_t
-    values_length);
+uint32_t dollavir_param_set_on_time(dollavir_note_param *param, int64_t timepos, const int32_t *values,
+    size_t values_length);
 
 /* Reserves a cycle, its length and then its values, from `timepos` and the delay on; nothing, where there is no
    value. Refuses 3, 4. */
-uint32_t dollavir_param_set_on_cycle(dollavir_note_param *param, int64_t timepos, const int32_t *args, size_t
-    args_length);
+uint32_t dollavir_param_set_on_cycle(dollavir_note_param *param, int64_t timepos, const int32_t *args,
+    size_t args_length);
 
 /* Reserves a value for each of the next notes, round and round where repeat stands. Refuses 3, 4. */
 uint32_t dollavir_param_set_on_note(dollavir_note_param *param, const int32_t *values, size_t values_length);
 
 /* The value of the reserved curve or cycle at `timepos`, or the default; a curve that is over goes. Leaves it in
    `value`, 0 where it refuses. Refuses 4. */
-uint32_t dollavir_param_calc_on_time(dollavir_note_param *param, int64_t timepos, int32_t def, int32_t
-    *value);
+uint32_t dollavir_param_calc_on_time(dollavir_note_param *param, int64_t timepos, int32_t def,
+    int32_t *value);
 
 /* The next value of the reserved list, or the default; a list that is spent goes. Leaves it in `value`, 0 where
    it refuses. Refuses 4. */
@@ -695,23 +695,23 @@ uint32_t dollavir_layers_set_v_sub(dollavir_layers *layers, size_t index, int32_
 uint32_t dollavir_layers_set_v_sub_random(dollavir_layers *layers, size_t index, int32_t random);
 
 /* Reserves a curve for a layer, from `timepos` and the velocity parameter's delay on. Refuses 3, 4, 5. */
-uint32_t dollavir_layers_set_v_sub_on_time(dollavir_layers *layers, size_t index, int64_t timepos, int32_t
-    delay, const int32_t *values, size_t values_length);
+uint32_t dollavir_layers_set_v_sub_on_time(dollavir_layers *layers, size_t index, int64_t timepos,
+    int32_t delay, const int32_t *values, size_t values_length);
 
 /* Reserves a cycle for a layer, its length and then its values, from `timepos` and the velocity parameter's delay
    on; nothing, where there is no value. Refuses 3, 4, 5. */
-uint32_t dollavir_layers_set_v_sub_on_cycle(dollavir_layers *layers, size_t index, int64_t timepos, int32_t
-    delay, const int32_t *args, size_t args_length);
+uint32_t dollavir_layers_set_v_sub_on_cycle(dollavir_layers *layers, size_t index, int64_t timepos,
+    int32_t delay, const int32_t *args, size_t args_length);
 
 /* Reserves a value of a layer for each of the next notes, round and round where the velocity parameter's repeat
    stands. Refuses 3, 4, 5. */
-uint32_t dollavir_layers_set_v_sub_on_note(dollavir_layers *layers, size_t index, uint32_t repeat, const
-    int32_t *values, size_t values_length);
+uint32_t dollavir_layers_set_v_sub_on_note(dollavir_layers *layers, size_t index, uint32_t repeat,
+    const int32_t *values, size_t values_length);
 
 /* A note's velocity at `timepos`: the given one and what every layer adds to it. The layers come back advanced.
    Leaves it in `value`, 0 where it refuses. Refuses 4. */
-uint32_t dollavir_layers_apply_v_sub(dollavir_layers *layers, int64_t timepos, int32_t velocity, int64_t
-    *value);
+uint32_t dollavir_layers_apply_v_sub(dollavir_layers *layers, int64_t timepos, int32_t velocity,
+    int64_t *value);
 
 /* ---- a cycle over time of its own ---- */
 

@@ -8,6 +8,7 @@ use crate::make::is_inner;
 use crate::other::*;
 use crate::rules::LIST_LIMIT;
 use crate::script::Step;
+use crate::table::{self, Arg};
 
 /// A refused call has zeros for answers: out-parameters hold 77 before a call, so that one which is not written shows.
 fn reply(code: u32, answers: &[i64]) -> Reply {
@@ -270,7 +271,8 @@ unsafe fn reserved(desk: &mut Other, op: i64, a: &[i64], list: &[i32]) -> Reply 
         }
         _ => (),
     }
-    let places = if op == 706 { a[2] as usize } else { 16 };
+    let call = table::find(op).expect("a call of the table");
+    let places = call.args.iter().position(|arg| *arg == Arg::Places).map_or(0, |at| a[at] as usize);
     let (track, cycles) = (&mut desk.track, desk.cycles.as_mut_ptr());
     let (values, length, target) = (list.as_ptr(), list.len(), a.first().map_or(0, |&target| target as i32));
     let word = |at: usize| a[at] as i32;

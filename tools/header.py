@@ -49,7 +49,7 @@ class Library:
         m = re.search(r'#\[repr\(C\)\]\npub struct %s \{\n(.*?)\n\}' % name, text, re.S)
         if not m:
             sys.exit(f'{crate}: no #[repr(C)] struct {name}')
-        homes = {s: c for c, s in re.findall(r'^use (\w+)::(\w+);', text, re.M)}
+        homes = {s: c for c, s in re.findall(r'^(?:pub )?use (\w+)::(\w+);', text, re.M)}
         fields = []
         for f, t in re.findall(r'pub (\w+): ([^,]+),', m[1]):
             a = re.fullmatch(r'\[(\w+); (\w+)\]', t)
@@ -122,7 +122,8 @@ def c_header(lib):
             args.append(f'{"" if m[1] else "const "}{c_type(m[2] or m[3])} *{n}')
             if m[2]:
                 args.append(f'size_t {n}_length')
-        lines = wrapped(f'{c_type(result) if result else "void"} {name}({", ".join(args) or "void"});', '')
+        listed = ', '.join(a.replace(' ', '\0') for a in args) or 'void'  # no line ends inside a parameter
+        lines = [l.replace('\0', ' ') for l in wrapped(f'{c_type(result) if result else "void"} {name}({listed});', '')]
         out += [f'/* ---- {t} ---- */\n' for t in lib.titles.get(name, [])] + comment(about) + [lines[0]] + ['    ' + l for l in lines[1:]] + ['']
     return '\n'.join(out + ['#ifdef __cplusplus', '}', '#endif', '', '#endif', ''])
 
