@@ -20,6 +20,7 @@ mod make;
 mod other;
 mod poke;
 mod private;
+mod quarter;
 mod rules;
 mod script;
 mod show;
