@@ -487,8 +487,9 @@ uint32_t dollavir_normalize(int64_t *events, size_t events_length, size_t *count
 uint32_t dollavir_play_from(int64_t *events, size_t events_length, size_t *count, int64_t cut,
     const uint8_t *store, size_t store_length);
 
-/* The same with the bends: those from `cut` on are kept, and the last before it is folded. What is folded stands
-   first. */
+/* The cut with its bends: those from `cut` on are kept, and the last before it is folded. What is folded stands
+   first. Answers the new count; the places that fall vacant are zeroed. Refuses 1, 4; then the list is left as it
+   is. */
 uint32_t dollavir_full_cut(int64_t *events, size_t events_length, size_t *count, int64_t cut,
     const uint8_t *store, size_t store_length);
 

@@ -488,8 +488,9 @@ extern "C" {
     // are zeroed. Refuses 1, 4; then the list is left as it is.
     pub fn dollavir_play_from(events: *mut i64, events_length: usize, count: *mut usize, cut: i64, store: *const u8, store_length: usize) -> u32;
 
-    // The same with the bends: those from `cut` on are kept, and the last before it is folded. What is folded
-    // stands first.
+    // The cut with its bends: those from `cut` on are kept, and the last before it is folded. What is folded
+    // stands first. Answers the new count; the places that fall vacant are zeroed. Refuses 1, 4; then the list is
+    // left as it is.
     pub fn dollavir_full_cut(events: *mut i64, events_length: usize, count: *mut usize, cut: i64, store: *const u8, store_length: usize) -> u32;
 
     // ---- the track's parameters and layers

@@ -933,8 +933,8 @@ pub extern "C" fn dollavir_play_from(
     r.code
 }
 
-// The same with the bends: those from `cut` on are kept, and the last before it is folded. What is folded stands
-// first.
+// The cut with its bends: those from `cut` on are kept, and the last before it is folded. What is folded stands
+// first. Answers the new count; the places that fall vacant are zeroed. Refuses 1, 4; then the list is left as it is.
 #[no_mangle]
 pub extern "C" fn dollavir_full_cut(
     events: &mut [i64],

@@ -417,7 +417,8 @@ pub fn play_from(events: &mut [i64], count: usize, cut: i64, store: &[u8]) -> Ta
     cut_list(events, count, c, store.len())
 }
 
-// The same with the bends: those from `cut` on are kept, and the last before it is folded. What is folded stands first.
+// The cut with its bends: those from `cut` on are kept, and the last before it is folded. What is folded stands first.
+// Answers the new count; the places that fall vacant are zeroed. Refuses 1, 4; then the list is left as it is.
 pub fn full_cut(events: &mut [i64], count: usize, cut: i64, store: &[u8]) -> Taken
     ensures { λ r. ⌜ (r ≡ cutTaken (length (now (store .entry))) (now (events .entry)) count (whole cut))
         × (now (events .exit) ≡ cutLeft (length (now (store .entry))) (now (events .entry)) count (whole cut)) ⌝ }
