@@ -12,6 +12,7 @@ use lib.IntN.{ℤ}
 use lib.ListN.{length, length-append, length-take}
 use Rattle.laws.specs.Lists.{putFirst}
 use Rattle.laws.specs.Rows.{flat}
+use Rattle.laws.proofs.Firsts.{length-putFirst}
 use Rattle.events.specs.declared.Event.{Event}
 use Rattle.events.specs.Events.{zeroEvent}
 use Rattle.eventlist.specs.Rows.{recordWidth, numbersOf, rowsOf, eventsOf}
@@ -21,7 +22,6 @@ use Rattle.cutting.specs.Cuts.{plain, cutOf, cutRefusal, cutTaken, cutLeft}
 use Rattle.cutting.proofs.Room.{room}
 use Rattle.cutting.proofs.Refusing.{same-count}
 use Rattle.cycles.specs.declared.Cycle.{Cycle}
-use Rattle.cycles.proofs.Running.{length-putFirst}
 use Rattle.budget.specs.declared.Budget.{Budget}
 use Rattle.state.specs.declared.Track.{Track}
 use Rattle.drawing.specs.Calls.{Draw, drawRefusal, drawEvents, drawAnswer, drawLeft}
