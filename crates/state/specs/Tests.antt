@@ -1,7 +1,9 @@
 -- 01, "Numbers a caller may hand in": what a track may hold.
 use mathlib.Core.Bool.{Bool, _&&_}
 use mathlib.Core.List.{List}
+use Prim.Native.Nat.{ℕ}
 use lib.Dec.{leb}
+use lib.IntN.{ℤ}
 use Rattle.laws.specs.Lists.{all}
 use Rattle.numbers.specs.Limits.{places}
 use Rattle.numbers.specs.Ranges.{isTime, isNumber, isLength, isChannel, isTimebase}
@@ -19,10 +21,13 @@ use Rattle.cycles.specs.declared.Cycle.{Cycle}
 use Rattle.state.specs.Track.{noCycles, cyclesOf}
 
 -- "times within ±2^40; timebase 1 to 32,767; channel 0..15; frequency ±2^20; velocities, timing, octave, qlen ±2^22"
+abbrev pub playable : ℤ → ℤ → ℤ → ℤ → ℤ → ℤ → ℤ → ℤ → ℤ → ℕ → Bool
+playable tb tp ch cf pf ve ti oc ql st =
+    isTimebase tb && isTime tp && isChannel ch && isLength cf && isLength pf && isNumber ve && isNumber ti && isNumber oc && isNumber ql && isFlag st
+
 unfoldable pub okPlay : Track → Bool
 okPlay a =
-    isTimebase (a .timebase) && isTime (a .timepos) && isChannel (a .channel) && isLength (a .ccfreq) && isLength (a .pbfreq)
-    && isNumber (a .velocity) && isNumber (a .timing) && isNumber (a .octave) && isNumber (a .qlen) && isFlag (a .step)
+    playable (a .timebase) (a .timepos) (a .channel) (a .ccfreq) (a .pbfreq) (a .velocity) (a .timing) (a .octave) (a .qlen) (a .step)
 
 unfoldable pub okParams : NoteParam → NoteParam → NoteParam → NoteParam → NoteParam → Bool
 okParams v q t o l = okParam v && okParam q && okParam t && okParam o && okParam l

@@ -3,7 +3,7 @@
 // refuses hands back the track that it was given.
 ghost use mathlib.Core.Path.{_≡_};
 ghost use Rattle.state.specs.Track.{noNotes, noWaves, noSines, noCycles, newTrack, cyclesOf};
-ghost use Rattle.state.specs.Tests.{okPlay, okParams, okOptions, okTables, okTrack, okLent};
+ghost use Rattle.state.specs.Tests.{playable, okParams, okOptions, okTables, okTrack, okLent};
 ghost use Rattle.state.specs.Calls.{onChannel, newOf, setTimepos, setChannel, setCcFreq, setPbFreq};
 use cycles::Cycle;
 pub use cycles::OPTIONS;
@@ -109,19 +109,30 @@ pub fn no_cycles() -> CycleTable
 }
 
 // Whether the numbers that stand in a track alone are in their ranges.
-fn play_ok(track: Track) -> bool
-    ensures { λ r. ⌜ r ≡ okPlay track ⌝ }
+fn play_ok(
+    timebase: i32,
+    timepos: i64,
+    channel: i32,
+    ccfreq: i32,
+    pbfreq: i32,
+    velocity: i32,
+    timing: i32,
+    octave: i32,
+    qlen: i32,
+    step: u32,
+) -> bool
+    ensures { λ r. ⌜ r ≡ playable timebase timepos channel ccfreq pbfreq velocity timing octave qlen step ⌝ }
 {
-    let a = is_timebase(track.timebase);
-    let b = is_time(track.timepos);
-    let c = channel_ok(track.channel);
-    let d = is_length(track.ccfreq);
-    let e = is_length(track.pbfreq);
-    let f = is_number(track.velocity);
-    let g = is_number(track.timing);
-    let h = is_number(track.octave);
-    let i = is_number(track.qlen);
-    let j = track.step <= 1;
+    let a = is_timebase(timebase);
+    let b = is_time(timepos);
+    let c = channel_ok(channel);
+    let d = is_length(ccfreq);
+    let e = is_length(pbfreq);
+    let f = is_number(velocity);
+    let g = is_number(timing);
+    let h = is_number(octave);
+    let i = is_number(qlen);
+    let j = step <= 1;
     a & b & c & d & e & f & g & h & i & j
 }
 
@@ -165,14 +176,27 @@ fn tables_ok(notes: NoteTable, waves: WaveTable, sines: SineTable) -> bool
 }
 
 // Whether every number of a track is in its range. A call that is lent the cycle table tests that besides, and that no
-// target of it is reserved here too.
+// target of it is reserved here too. The layers are a local first: handed on from their place in the track, they would have
+// the compiled code copy the whole of it.
 pub fn track_ok(track: Track) -> bool
     ensures { λ r. ⌜ r ≡ okTrack track ⌝ }
 {
     let options = track.options;
-    let a = play_ok(track);
+    let layers = track.layers;
+    let a = play_ok(
+        track.timebase,
+        track.timepos,
+        track.channel,
+        track.ccfreq,
+        track.pbfreq,
+        track.velocity,
+        track.timing,
+        track.octave,
+        track.qlen,
+        track.step,
+    );
     let b = params_ok(track.v, track.q, track.t, track.o, track.l);
-    let c = layers_ok(track.layers);
+    let c = layers_ok(layers);
     let d = options_ok(options);
     let e = tables_ok(track.notes, track.waves, track.sines);
     let f = track.cycles <= PLACES;

@@ -1,6 +1,10 @@
--- `track_ok` joins the tests of a track's parts.
+-- `track_ok` joins the tests of a track's parts; the numbers that stand in it alone are read back from their bits.
+use mathlib.Core.Path.{_≡_, refl}
+use mir.Syntax.{w32, w64}
+use mir.Facts.{toZ-ofZ}
 use borrow.Author.Needs.{needs}
-use Rattle.state.specs.Tests.{okTrack}
+use Rattle.laws.proofs.Tests.{both}
+use Rattle.state.specs.Tests.{okPlay, okTrack}
 use Rattle.state.proofs.track_ok.Statement.{statement}
 use Rattle.state.proofs.track_ok.Tie as tie
 
@@ -20,8 +24,29 @@ tables-ok-requires : tie.Need-tables-ok-requires
 tables-ok-requires c κs = search needs
 
 returns : tie.Need-returns
-unfolding okTrack
-returns c = cc
+unfolding okTrack okPlay
+returns c =
+    let tables = c .before in
+    let options = tables .before in
+    let layers = options .before in
+    let params = layers .before in
+    let play = params .before in
+    let told = play .before .before .before .before .before .before .before .before .before in
+    let a = told .before .before .before .args .track in
+    let g = told .struct-told .given in
+    let p : play .play-ok .result ≡ okPlay a =
+    rw (
+      toZ-ofZ {w = w32} {z = a .timebase} (record { sfits = g .0 .1 }),
+      toZ-ofZ {w = w64} {z = a .timepos} (record { sfits = g .1 .0 .1 }),
+      toZ-ofZ {w = w32} {z = a .channel} (record { sfits = g .1 .1 .0 .1 }),
+      toZ-ofZ {w = w32} {z = a .ccfreq} (record { sfits = g .1 .1 .1 .0 .1 }),
+      toZ-ofZ {w = w32} {z = a .pbfreq} (record { sfits = g .1 .1 .1 .1 .0 .1 }),
+      toZ-ofZ {w = w32} {z = a .velocity} (record { sfits = g .1 .1 .1 .1 .1 .0 .1 }),
+      toZ-ofZ {w = w32} {z = a .timing} (record { sfits = g .1 .1 .1 .1 .1 .1 .0 .1 }),
+      toZ-ofZ {w = w32} {z = a .octave} (record { sfits = g .1 .1 .1 .1 .1 .1 .1 .0 .1 }),
+      toZ-ofZ {w = w32} {z = a .qlen} (record { sfits = g .1 .1 .1 .1 .1 .1 .1 .1 .0 .1 }),
+    ) at (play .play-ok .ensures) in
+    both (both (both (both (both p (params .params-ok .ensures)) (layers .layers-ok .ensures)) (options .options-ok .ensures)) (tables .tables-ok .ensures)) refl
 
 pub track-ok-spec : {M : Type 1} → statement M
 track-ok-spec =
