@@ -203,7 +203,23 @@ fn set_parameter(param: &mut NoteParam, op: i64, x: &[isize], list: Vec<isize>) 
     }
 }
 
+/// The setters of family 4 that 517 to 527 are, in this order, as the track's own.
+pub const OWN_SETTERS: [i64; 11] = [404, 405, 406, 402, 411, 412, 413, 414, 415, 416, 417];
+
+/// A parameter's setter as the track's own: what starts at a time starts at the track's.
+fn own_setter(desk: &mut Desk, op: i64, a: &[i64], list: &[i64]) -> Reply {
+    let mut x = isizes(a);
+    if matches!(op, 404 | 405) {
+        x.push(desk.track.timepos);
+    }
+    set_parameter(desk.param(a[0]), op, &x, isizes(list));
+    done()
+}
+
 fn of_track(desk: &mut Desk, op: i64, a: &[i64], list: &[i64]) -> Reply {
+    if op > 516 {
+        return own_setter(desk, OWN_SETTERS[(op - 517) as usize], a, list);
+    }
     let (track, first, list) = (&mut desk.track, a[0] as isize, isizes(list));
     let value = match op {
         501 => track.calc_v_on_time(first),

@@ -1,7 +1,7 @@
 // One call of a script, made on the linked port through its C interface. Nothing is tested here: the library decides every refusal. The calls of family 9, and those
 // that it does not export, are not here.
 
-use crate::calls::Reply;
+use crate::calls::{Reply, OWN_SETTERS};
 use crate::desk::Record;
 use crate::dollavir::*;
 use crate::make::is_inner;
@@ -159,25 +159,26 @@ unsafe fn cycle_time(a: &[i64], list: &[i32]) -> Reply {
 pub fn of_whole_track(track: &mut Track, step: &Step) -> Option<i64> {
     let (a, list) = step.parts();
     let list: Vec<i32> = list.iter().map(|&x| x as i32).collect();
+    unsafe { own_setter(track, step.op, a, &list) }.map(i64::from)
+}
+
+unsafe fn own_setter(track: &mut Track, op: i64, a: &[i64], list: &[i32]) -> Option<u32> {
     let (values, length, which) = (list.as_ptr(), list.len(), a.first().map_or(0, |&which| which as u32));
     let word = |at: usize| a[at] as i32;
-    let code = unsafe {
-        match step.op {
-            402 => dollavir_clear_param_reserve(track, which),
-            404 => dollavir_set_param_on_time(track, which, values, length),
-            405 => dollavir_set_param_on_cycle(track, which, values, length),
-            406 => dollavir_set_param_on_note(track, which, values, length),
-            411 => dollavir_set_param_random(track, which, word(1)),
-            412 => dollavir_set_param_range(track, which, word(1), word(2)),
-            413 => dollavir_clear_param_range(track, which),
-            414 => dollavir_set_param_delay(track, which, word(1)),
-            415 => dollavir_set_param_max(track, which, word(1)),
-            416 => dollavir_clear_param_max(track, which),
-            417 => dollavir_set_param_repeat(track, which, a[1] as u32),
-            _ => return None,
-        }
-    };
-    Some(i64::from(code))
+    Some(match op {
+        402 => dollavir_clear_param_reserve(track, which),
+        404 => dollavir_set_param_on_time(track, which, values, length),
+        405 => dollavir_set_param_on_cycle(track, which, values, length),
+        406 => dollavir_set_param_on_note(track, which, values, length),
+        411 => dollavir_set_param_random(track, which, word(1)),
+        412 => dollavir_set_param_range(track, which, word(1), word(2)),
+        413 => dollavir_clear_param_range(track, which),
+        414 => dollavir_set_param_delay(track, which, word(1)),
+        415 => dollavir_set_param_max(track, which, word(1)),
+        416 => dollavir_clear_param_max(track, which),
+        417 => dollavir_set_param_repeat(track, which, a[1] as u32),
+        _ => return None,
+    })
 }
 
 unsafe fn of_track(track: &mut Track, op: i64, a: &[i64], list: &[i32]) -> Reply {
@@ -199,7 +200,8 @@ unsafe fn of_track(track: &mut Track, op: i64, a: &[i64], list: &[i32]) -> Reply
         513 => dollavir_set_v_sub_on_time(track, layer, values, length),
         514 => dollavir_set_v_sub_on_cycle(track, layer, values, length),
         515 => dollavir_set_v_sub_on_note(track, layer, values, length),
-        _ => dollavir_apply_v_sub(track, first, &mut wide),
+        516 => dollavir_apply_v_sub(track, first, &mut wide),
+        _ => own_setter(track, OWN_SETTERS[(op - 517) as usize], a, list).expect("a setter"),
     };
     match op {
         501..=510 => reply(code, &[i64::from(value)]),

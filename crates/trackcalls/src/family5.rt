@@ -1,4 +1,4 @@
-// Family 5: the track's parameters at a note, and its velocity layers.
+// Family 5: the track's parameters at a note, its velocity layers, and what is set of its parameters.
 use desk::Called;
 use desk::Desk;
 use desk::Tracked;
@@ -22,6 +22,17 @@ use playing::calc_t_on_note;
 use playing::calc_t_on_time;
 use playing::calc_v_on_note;
 use playing::calc_v_on_time;
+use playing::clear_param_max;
+use playing::clear_param_range;
+use playing::clear_param_reserve;
+use playing::set_param_delay;
+use playing::set_param_max;
+use playing::set_param_on_cycle;
+use playing::set_param_on_note;
+use playing::set_param_on_time;
+use playing::set_param_random;
+use playing::set_param_range;
+use playing::set_param_repeat;
 use playing::set_v_sub;
 use playing::set_v_sub_on_cycle;
 use playing::set_v_sub_on_note;
@@ -32,6 +43,7 @@ use script::answer::refusal;
 use script::answer::unknown;
 use script::args::arg;
 use script::args::as_i32;
+use script::args::as_u32;
 use script::args::as_usize;
 use state::Track;
 use state::TrackAnswer;
@@ -74,28 +86,45 @@ fn on_note(op: i64, track: Track, def: i32) -> TrackValue {
     }
 }
 
-// 513 to 515.
-fn reserved(op: i64, track: Track, layer: usize, values: &[i32]) -> TrackAnswer {
+// 513 to 515 of a layer, 517 to 519 of a parameter: `place` names it.
+fn reserved(op: i64, track: Track, place: i64, values: &[i32]) -> TrackAnswer {
     match op {
-        513 => set_v_sub_on_time(track, layer, values),
-        514 => set_v_sub_on_cycle(track, layer, values),
-        _ => set_v_sub_on_note(track, layer, values),
+        513 => set_v_sub_on_time(track, as_usize(place), values),
+        514 => set_v_sub_on_cycle(track, as_usize(place), values),
+        515 => set_v_sub_on_note(track, as_usize(place), values),
+        517 => set_param_on_time(track, as_u32(place), values),
+        518 => set_param_on_cycle(track, as_u32(place), values),
+        _ => set_param_on_note(track, as_u32(place), values),
     }
 }
 
 // The same with the first n numbers of the list.
-fn with_first(op: i64, track: Track, layer: usize, list: &[i32], n: usize) -> Tracked {
+fn with_first(op: i64, track: Track, place: i64, list: &[i32], n: usize) -> Tracked {
     if n <= list.len() {
-        return left(reserved(op, track, layer, &list[..n]));
+        return left(reserved(op, track, place, &list[..n]));
     }
     of_track(unknown(), track)
 }
 
 // The same with the arguments' list.
-fn listed(op: i64, args: &[i64], track: Track, layer: usize) -> Tracked {
+fn listed(op: i64, args: &[i64], track: Track, place: i64) -> Tracked {
     let mut list: [i32; HANDED] = [0; HANDED];
     fill(&mut list, args, 1);
-    with_first(op, track, layer, &list, count_of(args, 1))
+    with_first(op, track, place, &list, count_of(args, 1))
+}
+
+// 520 to 527: a number of a parameter.
+fn set(op: i64, track: Track, which: u32, x: i32, y: i32, on: u32) -> TrackAnswer {
+    match op {
+        520 => clear_param_reserve(track, which),
+        521 => set_param_random(track, which, x),
+        522 => set_param_range(track, which, x, y),
+        523 => clear_param_range(track, which),
+        524 => set_param_delay(track, which, x),
+        525 => set_param_max(track, which, x),
+        526 => clear_param_max(track, which),
+        _ => set_param_repeat(track, which, on),
+    }
 }
 
 fn on_track(op: i64, args: &[i64], track: Track) -> Tracked {
@@ -107,8 +136,17 @@ fn on_track(op: i64, args: &[i64], track: Track) -> Tracked {
         502 | 504 | 506 | 508 | 510 => taken(on_note(op, track, x)),
         511 => left(set_v_sub(track, as_usize(a), y)),
         512 => left(set_v_sub_random(track, as_usize(a), y)),
-        513..=515 => listed(op, args, track, as_usize(a)),
+        513..=515 => listed(op, args, track, a),
         516 => summed(apply_v_sub(track, x)),
+        517..=519 => listed(op, args, track, a),
+        520..=527 => left(set(
+            op,
+            track,
+            as_u32(a),
+            y,
+            as_i32(arg(args, 2)),
+            as_u32(arg(args, 1)),
+        )),
         _ => of_track(unknown(), track),
     }
 }
