@@ -1,3 +1,4 @@
 pub mod EventRows
 pub mod Sound
 pub mod Bends
+pub mod Leaving

@@ -1,5 +1,6 @@
 -- What holds of each of a list, and what is left of one without those of a kind.
 --     all-of          as a test
+--     all-given       as a test, where another holds too
 --     without-twice   taking out fewer first changes nothing
 --     without-none    where nothing is to be taken out
 --     without-every   where everything is
@@ -7,6 +8,7 @@ use mathlib.Core.Path.{_≡_, refl, sym, ap, _∙_}
 use mathlib.Core.Bool.{Bool, true, false, _&&_, true≢false}
 use mathlib.Core.List.{List, [], _∷_, _++_}
 use Rattle.laws.specs.Lists.{all, unless, without}
+use Rattle.laws.proofs.Ranges.{left, right}
 
 abbrev pub Each : {A : Type 0} → (A → Type 0) → List A → Type 0
 Each P [] = Unit {0}
@@ -25,6 +27,11 @@ module _ {A : Type 0} where
   unfolding all
   all-of p [] h = refl
   all-of p (x ∷ l) h = ap (λ (t : Bool). t && all p l) (h .0) ∙ all-of p l (h .1)
+
+  pub all-given : (p q : A → Bool) (l : List A) → Each (λ (x : A). q x ≡ true → p x ≡ true) l → all q l ≡ true → all p l ≡ true
+  unfolding all
+  all-given p q [] h e = refl
+  all-given p q (x ∷ l) h e = rw (h .0 (left (q x) (all q l) e)) (all-given p q l (h .1) (right (q x) (all q l) e))
 
   pub without-append : (p : A → Bool) (a b : List A) → without p (a ++ b) ≡ without p a ++ without p b
   without-append p [] b = refl

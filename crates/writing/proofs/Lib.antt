@@ -11,3 +11,4 @@ pub mod Lasting
 pub mod Allowed
 pub mod Freedom
 pub mod Orders
+pub mod Sound

@@ -32,6 +32,7 @@ use Rattle.values.specs.Options.{moved}
 use Rattle.values.specs.Clamp.{topOf, clamped}
 use Rattle.values.specs.Value.{kindOf, controllerEvent, bendEvent, eventFor, startOf, timeOf, eventOfOffer, nextSeed}
 use Rattle.values.proofs.Clamping.{clamped-in}
+use Rattle.values.proofs.Stored.{offer-time}
 use Rattle.offers.specs.declared.Piece.{Piece}
 use Rattle.offers.specs.Rules.{ruleOf, same, fresh, joined, become, seedsAfter, spent, flagged}
 use Rattle.offers.specs.Runs.{offered, newEvents, budgetAfter}
@@ -80,6 +81,11 @@ fresh-each P every any last (o ∷ os) h = go (same every any last (o .value)) (
     go true a b = a
     go false a b = (h .0, b)
 
+-- nothing is asked of an offer
+pub every : (os : List Offer) → Each (λ (o : Offer). Unit {0}) os
+every [] = tt
+every (o ∷ os) = (tt, every os)
+
 -- ---- what holds of the event of each offer holds of each event that is added
 module _ (w : Write) (P : Event → Type 0) (Q : Offer → Type 0) (f : (o : Offer) (y : ℕ) → Q o → P (eventOfOffer w o y)) where
   become-each : (n : ℕ) (os : List Offer) (y : ℕ) → Each Q os → Each P (joined (take n (become (ruleOf w) os y)))
@@ -95,17 +101,6 @@ module _ (w : Write) (P : Event → Type 0) (Q : Offer → Type 0) (f : (o : Off
 
 -- ---- the event of an offer
 module _ (w : Write) where
-  time-of : (o : Offer) (y : ℕ) → eventOfOffer w o y .time ≡ startOf w +ℤ pos (o .step)
-  unfolding eventOfOffer eventFor timeOf
-  time-of o y = go (isController (w .target))
-    where
-      v : ℤ
-      v = clamped (w .target) (moved (w .option) (o .value) y)
-
-      go : (t : Bool) → cond t (controllerEvent (startOf w +ℤ pos (o .step)) (w .channel) (w .target) v) (bendEvent (startOf w +ℤ pos (o .step)) (w .channel) v) .time ≡ startOf w +ℤ pos (o .step)
-      go true = refl
-      go false = refl
-
   own : (o : Offer) (y : ℕ) → belongs (w .target) (eventOfOffer w o y) ≡ true
   unfolding eventOfOffer eventFor belongs kindOf
   own o y = go (isController (w .target)) refl
@@ -137,7 +132,7 @@ module _ (w : Write) where
   taken : (long : ℕ) (o : Offer) (y : ℕ) → o .step < long → takenBy (windowOf w long) (eventOfOffer w o y) ≡ true
   unfolding takenBy windowOf belongs
   taken long o y h =
-      let t = time-of o y in
+      let t = offer-time w o y in
       ap (λ (x : Bool). x && leZ (startOf w) (eventOfOffer w o y .time) && ltZ (eventOfOffer w o y .time) (startOf w +ℤ pos long)) (own o y)
       ∙ ap (λ (z : ℤ). leZ (startOf w) z && ltZ z (startOf w +ℤ pos long)) t
       ∙ ap₂ (λ (x y : Bool). x && y) (le-up (startOf w) (o .step)) (lt-up (startOf w) (o .step) long h)
@@ -166,10 +161,6 @@ module _ (w : Write) (b : Budget) (ts : List Piece) (s : ℕ) where
       all-of (takenBy (windowOf w (total ts))) news
       (new-each w (λ (e : Event). takenBy (windowOf w (total ts)) e ≡ true) (Before (total ts)) (λ o y h. taken w (total ts) o y h) b (offers (w .freq) ts s 0) (before p))
 
-  every : (os : List Offer) → Each (λ (o : Offer). Unit {0}) os
-  every [] = tt
-  every (o ∷ os) = (tt, every os)
-
   pub in-clamp : all (inClamp (w .target)) news ≡ true
   in-clamp =
       all-of (inClamp (w .target)) news
@@ -183,7 +174,7 @@ module _ (w : Write) (b : Budget) (ts : List Piece) (s : ℕ) where
     where
       time : (o : Offer) (y : ℕ) → Before (total ts) o → isEventTime (eventOfOffer w o y .time) ≡ true
       time o y h =
-          let e = time-of w o y in
+          let e = offer-time w o y in
           let a = sized-mag (2 ^ 40) (w .time) t in
           let c = sized-mag (2 ^ 20) (w .option .delay) d in
           let m = mag-add (w .time) (w .option .delay) in
