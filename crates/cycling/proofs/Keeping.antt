@@ -1,33 +1,27 @@
 -- What an accepted call leaves passes the tests of the next: the list, the budget, and the table with its track. So a series that
 -- begins well can only be refused for a time out of range or for room.
-use mathlib.Core.Path.{_≡_, refl, ap, _∙_}
-use mathlib.Core.Bool.{Bool, true, false, cond, _&&_}
+use mathlib.Core.Path.{_≡_, ap, ap₂, _∙_}
+use mathlib.Core.Bool.{true, _&&_}
 use mathlib.Core.List.{List, [], _∷_, _++_}
-use Prim.Native.Nat.{ℕ, _+_, _-_, _/_, _%_, _≤_}
-use native.Mathlib.Omega.{arith}
-use borrow.Author.Tests.{leb-true, le-leb}
-use lib.Dec.{eqb, leb}
+use Prim.Native.Nat.{_≤_}
+use lib.Dec.{leb}
 use lib.IntN.{ℤ}
 use lib.ListN.{length}
 use Rattle.laws.specs.Keys.{distinct}
-use Rattle.laws.specs.Lists.{all, counted, putFirst}
-use Rattle.laws.proofs.Ranges.{left, right}
-use Rattle.laws.proofs.Rows.{length-flat}
-use Rattle.laws.proofs.Firsts.{length-putFirst}
-use Rattle.numbers.specs.Limits.{places, valueBytes, byteLimit}
-use Rattle.numbers.specs.Ranges.{isTime, isBytes}
-use Rattle.budget.specs.declared.Budget.{Budget}
-use Rattle.budget.specs.Budgets.{okBudget, free, fits, reserved}
+use Rattle.laws.specs.Lists.{all, counted}
+use Rattle.laws.proofs.Ranges.{left}
+use Rattle.numbers.specs.Limits.{places, valueBytes}
+use Rattle.numbers.specs.Ranges.{isTime}
+use Rattle.budget.specs.Budgets.{okBudget}
+use Rattle.budget.proofs.Spending.{keeps-ok}
 use Rattle.events.specs.declared.Event.{Event}
-use Rattle.events.specs.Events.{zeroEvent}
-use Rattle.eventlist.specs.Rows.{recordWidth, eventOf, numbersOf, rowsOf, Whole}
+use Rattle.eventlist.specs.Rows.{rowsOf}
 use Rattle.eventlist.specs.Sound.{isList}
-use Rattle.eventlist.proofs.EventRows.{length-rowsOf}
-use Rattle.eventlist.proofs.Sound.{list-whole, list-within}
+use Rattle.eventlist.proofs.Sound.{left-long, left-list}
 use Rattle.cycles.specs.declared.Cycle.{Cycle}
 use Rattle.cycles.specs.Due.{DueWrite, leaves}
 use Rattle.cycles.specs.Rules.{okCycle, keysOf, okTable}
-use Rattle.cycles.specs.Calls.{State, Turn, limit, wrote, pushAll, share, moved, call}
+use Rattle.cycles.specs.Calls.{State, Turn, seeded, limit, wrote, pushAll, share, moved, call}
 use Rattle.cycles.proofs.Keeping.{keys-leaves, table-kept}
 use Rattle.cycles.proofs.Push.{call-one-pass}
 use Rattle.tables.specs.Tables.{noteKeys, waveKeys, sineKeys, okCycles, lone}
@@ -43,25 +37,11 @@ use Rattle.cycling.proofs.Calling as C
 
 -- ---- the budget
 
-spent : (b : Budget) (y : ℕ) → okBudget b ≡ true → okBudget (reserved valueBytes (record { seed = y; maximum = b .maximum; used = b .used; over = b .over })) ≡ true
-unfolding okBudget isBytes
-spent b y e = go (fits valueBytes b) refl
-  where
-    most : leb (b .maximum) byteLimit ≡ true
-    most = left (leb (b .maximum) byteLimit) (leb (b .used) byteLimit) (left (leb (b .maximum) byteLimit && leb (b .used) byteLimit) (leb (b .over) 1) e)
-
-    go : (t : Bool) → fits valueBytes b ≡ t → (leb (b .maximum) byteLimit && leb (cond t (b .used + valueBytes) (b .used)) byteLimit && leb (cond t (b .over) 1) 1) ≡ true
-    go true q =
-        let h = leb-true (b .maximum) byteLimit most in
-        let f = leb-true valueBytes (free b) q in
-        rw (most, le-leb (b .used + valueBytes) byteLimit (omega arith), right (leb (b .maximum) byteLimit && leb (b .used) byteLimit) (leb (b .over) 1) e)
-    go false q = rw (left (leb (b .maximum) byteLimit && leb (b .used) byteLimit) (leb (b .over) 1) e)
-
 module _ {E : Type 0} (f : Turn E) where
   all-spent : (ws : List DueWrite) (s : State E) → okBudget (s .budget) ≡ true → okBudget (pushAll f ws s .budget) ≡ true
-  unfolding pushAll wrote
+  unfolding pushAll wrote okBudget
   all-spent [] s e = e
-  all-spent (w ∷ ws) s e = all-spent ws (wrote f w s) (spent (s .budget) (f w (s .budget .seed) .1) e)
+  all-spent (w ∷ ws) s e = all-spent ws (wrote f w s) (keeps-ok valueBytes (seeded (s .budget) (f w (s .budget .seed) .1)) e)
 
   pub budget-kept : (u : ℤ) (s : State E) → okBudget (s .budget) ≡ true → okBudget (call f u s .budget) ≡ true
   unfolding moved
@@ -116,20 +96,14 @@ module _ (a : Track) (u : ℤ) (s : Lent) (e : answerTo a u s .code ≡ 0) where
 
   -- how many numbers there are does not change
   pub list-long : length (leftTo a u s .list) ≡ length (s .list)
-  unfolding Whole
   list-long =
-      let rows = putFirst zeroEvent (s .count) (C.left a u s e .events) (rowsOf (s .list)) in
-      let many = length-putFirst zeroEvent (s .count) (C.left a u s e .events) (rowsOf (s .list)) (list-within (s .list) (s .count) (was-well .list)) room in
       ap length (list-left a places (s .cycles) u (s .budget) (s .list) (s .count) (C.accepted a u s e))
-      ∙ length-flat recordWidth eventOf numbersOf (λ r. refl) rows
-      ∙ omega (arith, many, list-whole (s .list) (s .count) (was-well .list))
+      ∙ left-long (s .list) (s .count) (C.left a u s e .events) (was-well .list) room
 
   list-next : isList (leftTo a u s .list) (leftTo a u s .count) ≡ true
-  unfolding isList
   list-next =
-      let h : length (C.left a u s e .events) ≤ length (s .list) / recordWidth = omega (arith, room, length-rowsOf (s .list)) in
-      let whole = left (eqb (length (s .list) % recordWidth) 0) (leb (s .count) (length (s .list) / recordWidth)) (unfold isList in was-well .list) in
-      rw (list-long, C.count-next a u s e, whole, le-leb (length (C.left a u s e .events)) (length (s .list) / recordWidth) h)
+      ap₂ isList (list-left a places (s .cycles) u (s .budget) (s .list) (s .count) (C.accepted a u s e)) (C.count-next a u s e)
+      ∙ left-list (s .list) (s .count) (C.left a u s e .events) (was-well .list) room
 
   pub well-next : Well a (leftTo a u s)
   well-next =

@@ -3,3 +3,4 @@ pub mod Calling
 pub mod Keeping
 pub mod Demand
 pub mod Instance
+pub mod Sound
