@@ -9,3 +9,4 @@ pub mod Asking
 pub mod Refusing
 pub mod Promises
 pub mod Marked
+pub mod Sound

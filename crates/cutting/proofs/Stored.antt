@@ -1,10 +1,9 @@
 -- What the cuts lean on in an event that may be stored.
---     ok-time, ok-number      its time is an event's, its number a controller's where the kind is one
---     fits-sound              so an event that fits is sound
+--     fits-sound              its time is an event's, its number a controller's where the kind is one: it is sound
 --     sound-time, sound-number
 --     controller-up           a controller's number is an index of 128
 use mathlib.Core.Path.{_≡_, refl, sym}
-use mathlib.Core.Bool.{Bool, true, not, _&&_, _||_, true≢false}
+use mathlib.Core.Bool.{true, not, _||_, true≢false}
 use Prim.Native.Nat.{ℕ, _<_}
 use native.Mathlib.Omega.{arith}
 use borrow.Author.Tests.{leb-true}
@@ -13,38 +12,22 @@ use lib.IntN.{ℤ, pos, negsuc, natAbs}
 use lib.Signed.{nonNeg}
 use Rattle.laws.specs.Integers.{inside, cut}
 use Rattle.laws.proofs.Ranges.{left, right}
-use Rattle.numbers.specs.Ranges.{isEventTime, isChannel, isWord, isController}
+use Rattle.numbers.specs.Ranges.{isEventTime, isController}
 use Rattle.events.specs.declared.Event.{Event}
-use Rattle.events.specs.Events.{okNumbered, okData, okEvent}
-use Rattle.events.specs.Kinds.{controlChange, isKind}
+use Rattle.events.specs.Events.{okNumbered, okEvent}
+use Rattle.events.specs.Kinds.{controlChange}
+use Rattle.events.proofs.Stored.{storable}
 use Rattle.cutting.specs.declared.Cut.{Cut}
 use Rattle.cutting.specs.Cuts.{folds, keeps, shifted, fitsCut}
 use Rattle.cutting.specs.Passes.{sound}
 use Rattle.cutting.proofs.Folding.{folds-kind}
 
--- of eight tests that hold, the second and the seventh
-module _ (a b c d e f g h : Bool) (y : (a && b && c && d && e && f && g && h) ≡ true) where
-  second : b ≡ true
-  second =
-      right a b (left (a && b) c (left (a && b && c) d (left (a && b && c && d) e (left (a && b && c && d && e) f (left (a && b && c && d && e && f) g (left (a && b && c && d && e && f && g) h y))))))
-
-  seventh : g ≡ true
-  seventh = right (a && b && c && d && e && f) g (left (a && b && c && d && e && f && g) h y)
-
-module _ (store : ℕ) (e : Event) (y : okEvent store e ≡ true) where
-  pub ok-time : isEventTime (e .time) ≡ true
-  unfolding okEvent
-  ok-time = second (isKind (e .kind)) (isEventTime (e .time)) (isChannel (e .channel)) (isWord (e .v1)) (isWord (e .v2)) (isWord (e .v3)) (okNumbered e) (okData store e) y
-
-  pub ok-number : okNumbered e ≡ true
-  unfolding okEvent
-  ok-number = seventh (isKind (e .kind)) (isEventTime (e .time)) (isChannel (e .channel)) (isWord (e .v1)) (isWord (e .v2)) (isWord (e .v3)) (okNumbered e) (okData store e) y
-
 pub fits-sound : (store : ℕ) (c : Cut) (e : Event) → fitsCut store c e ≡ true → sound e ≡ true
 unfolding fitsCut sound
 fits-sound store c e y =
     let ok = left (okEvent store e) (not (keeps c e) || isEventTime (shifted c e .time)) y in
-    rw (ok-time store e ok, ok-number store e ok)
+    let s = storable store e ok in
+    rw (s .time, s .numbered)
 
 module _ (e : Event) (y : sound e ≡ true) where
   pub sound-time : isEventTime (e .time) ≡ true

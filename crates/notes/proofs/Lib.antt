@@ -2,3 +2,4 @@ pub mod Near
 pub mod Refusing
 pub mod Splitting
 pub mod Promises
+pub mod Sound

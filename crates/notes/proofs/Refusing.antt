@@ -57,24 +57,26 @@ module _ (store : ℕ) (l : List ℤ) (count size : ℕ) where
     pub list : isList l count ≡ true
     pub whole : size % recordWidth ≡ 0
     pub events : okEvents store l count ≡ true
+    pub ends : all okEnd (eventsOf l count) ≡ true
     pub room : most ≤ size / recordWidth
 
   pub accepted : splitRefusal store l count size ≡ 0 → Accepted
   unfolding splitRefusal
-  accepted = go lists (okEvents store l count) (all okEnd (eventsOf l count)) (ltb (size / recordWidth) most) refl refl refl
+  accepted = go lists (okEvents store l count) (all okEnd (eventsOf l count)) (ltb (size / recordWidth) most) refl refl refl refl
     where
-      go : (a b d f : Bool) → lists ≡ a → okEvents store l count ≡ b → ltb (size / recordWidth) most ≡ f → _≡_ {A = ℕ} (cond a (cond b (cond d (cond f 7 0) 4) 4) 1) 0 → Accepted
-      go true true true false p q r e =
+      go : (a b d f : Bool) → lists ≡ a → okEvents store l count ≡ b → all okEnd (eventsOf l count) ≡ d → ltb (size / recordWidth) most ≡ f → _≡_ {A = ℕ} (cond a (cond b (cond d (cond f 7 0) 4) 4) 1) 0 → Accepted
+      go true true true false p q t r e =
           record {
             list = left (isList l count) (eqb (size % recordWidth) 0) p;
             whole = eqb-true (size % recordWidth) 0 (right (isList l count) (eqb (size % recordWidth) 0) p);
             events = q;
+            ends = t;
             room = ltb-false (size / recordWidth) most r;
           }
-      go true true true true p q r e = absurd (omega arith)
-      go true true false f p q r e = absurd (omega arith)
-      go true false d f p q r e = absurd (omega arith)
-      go false b d f p q r e = absurd (omega arith)
+      go true true true true p q t r e = absurd (omega arith)
+      go true true false f p q t r e = absurd (omega arith)
+      go true false d f p q t r e = absurd (omega arith)
+      go false b d f p q t r e = absurd (omega arith)
 
 -- the whole answer: refused, it hands back what it was given; else it is what comes of the list
 module _ (store : ℕ) (l : List ℤ) (count : ℕ) (out : List ℤ) (n k : ℕ) (e : k ≡ splitRefusal store l count (length out)) where

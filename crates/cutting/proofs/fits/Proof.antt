@@ -7,8 +7,8 @@ use Rattle.laws.proofs.Tests.{no, yes, and-no, is-at}
 use Rattle.numbers.specs.Ranges.{isEventTime}
 use Rattle.events.specs.declared.Event.{Event}
 use Rattle.events.specs.Events.{okEvent}
+use Rattle.events.proofs.Stored.{storable}
 use Rattle.cutting.specs.Cuts.{fitsCut, keeps, shifted}
-use Rattle.cutting.proofs.Stored.{ok-time}
 use Rattle.cutting.proofs.fits.Statement.{statement}
 use Rattle.cutting.proofs.fits.Tie as tie
 
@@ -42,7 +42,7 @@ unfolding fitsCut
 returns c = and-no _ (no (c .before .event-ok .ensures) (c .if1 .taken))
 
 shift-requires : tie.Need-shift-requires
-shift-requires c κs = let t = c .before .before in (t .pre, ok-time (t .args .store) (t .args .e) (stored c))
+shift-requires c κs = let t = c .before .before in (t .pre, storable (t .args .store) (t .args .e) (stored c) .time)
 
 is-event-time-requires : tie.Need-is-event-time-requires
 is-event-time-requires c κs = search needs
