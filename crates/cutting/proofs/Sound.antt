@@ -25,7 +25,7 @@ use Rattle.events.specs.Kinds.{controlChange, pitchBend, voice, isKind, hasData
 use Rattle.events.proofs.Stored.{storable, storable-ok, cc-stored, plain-stored}
 use Rattle.eventlist.specs.Rows.{rowsOf, eventsOf}
 use Rattle.eventlist.specs.Sound.{isList}
-use Rattle.eventlist.proofs.Sound.{list-within, passed-both, SoundList, left-sound}
+use Rattle.eventlist.proofs.Sound.{list-within, passed, SoundList, left-sound}
 use Rattle.cutting.specs.declared.Cut.{Cut}
 use Rattle.cutting.specs.Choice.{lastOf}
 use Rattle.cutting.specs.Cuts.{controllers, unset, withTime, folds, controlAt, programAt, channelAt, bendAt, controlsFrom, programOn, folded, keeps, shifted, keptOf, cutOf, fitsCut, cutRefusal, cutTaken, cutLeft}
@@ -176,8 +176,8 @@ module _ (store : ℕ) where
 pub cut-sound : (store : ℕ) (l : List ℤ) (count : ℕ) (c : Cut) → cutRefusal store l count c ≡ 0 → SoundList store (cutLeft store l count c) (cutTaken store l count c .count)
 cut-sound store l count c e =
     let es = eventsOf l count in
-    let p = passed-both (isList l count) (isTime (c .at) && all (fitsCut store c) es) (unfold cutRefusal in e) in
+    let p = passed (isList l count) (isTime (c .at) && all (fitsCut store c) es) 0 (unfold cutRefusal in e) in
     rw e
-    (left-sound l count (cutOf c es) (p .0)
-    (omega (arith, same-count c es, room c es, length-take count (rowsOf l), list-within l count (p .0)))
-    store (cut-stored store c es (right (isTime (c .at)) (all (fitsCut store c) es) (p .1))))
+    (left-sound l count (cutOf c es) (p .list)
+    (omega (arith, same-count c es, room c es, length-take count (rowsOf l), list-within l count (p .list)))
+    store (cut-stored store c es (right (isTime (c .at)) (all (fitsCut store c) es) (p .numbers))))

@@ -15,15 +15,15 @@ use Rattle.eventlist.specs.Rows.{rowsOf, eventsOf}
 use Rattle.eventlist.specs.Sound.{isList, okEvents}
 use Rattle.eventlist.specs.Windows.{takenBy, keptBy}
 use Rattle.eventlist.specs.Bends.{bendsIn, bendsRefusal, bendsTaken, bendsLeft}
-use Rattle.eventlist.proofs.Sound.{list-within, passed-both, SoundList, left-sound}
+use Rattle.eventlist.proofs.Sound.{list-within, passed, SoundList, left-sound}
 
 pub bends-sound : (store : ℕ) (l : List ℤ) (count : ℕ) (start end : ℤ) → bendsRefusal store l count start end ≡ 0
     → SoundList store (bendsLeft store l count start end) (bendsTaken store l count start end .count)
 unfolding okEvents
 bends-sound store l count start end e =
-    let p = passed-both (isList l count) (isTime start && isTime end && okEvents store l count) (unfold bendsRefusal in e) in
-    let ok = right (isTime start && isTime end) (okEvents store l count) (p .1) in
+    let p = passed (isList l count) (isTime start && isTime end && okEvents store l count) 0 (unfold bendsRefusal in e) in
+    let ok = right (isTime start && isTime end) (okEvents store l count) (p .numbers) in
     rw e
-    (left-sound l count (keptBy (bendsIn start end) l count) (p .0)
-    (omega (arith, length-without (takenBy (bendsIn start end)) (eventsOf l count), length-take count (rowsOf l), list-within l count (p .0)))
+    (left-sound l count (keptBy (bendsIn start end) l count) (p .list)
+    (omega (arith, length-without (takenBy (bendsIn start end)) (eventsOf l count), length-take count (rowsOf l), list-within l count (p .list)))
     store (all-without (okEvent store) (takenBy (bendsIn start end)) (eventsOf l count) ok))

@@ -6,3 +6,4 @@ pub mod Playing
 pub mod Refusing
 pub mod Promises
 pub mod Staying
+pub mod Sound

@@ -9,18 +9,15 @@
 use mathlib.Core.Path.{_≡_, refl, sym, ap, _∙_}
 use mathlib.Core.Bool.{Bool, true, false, cond, true≢false}
 use mathlib.Core.List.{List, [], _∷_, _++_, map, append-nil, append-assoc}
-use Prim.Native.Nat.{ℕ, zero, suc, _+_, _*_, _≤_, _^_}
+use Prim.Native.Nat.{ℕ, zero, suc, _+_, _*_, _≤_}
 use native.Mathlib.Omega.{arith}
 use borrow.Author.Tests.{ne-eqb, leb-true, leb-false}
 use lib.Dec.{eqb}
-use lib.IntN.{ℤ, pos, _+ℤ_}
+use lib.IntN.{ℤ}
 use lib.ListN.{length, length-map}
-use Rattle.laws.specs.Integers.{sized}
 use Rattle.laws.specs.Lists.{all, unless, without}
-use Rattle.laws.proofs.Ranges.{sized-mag, sized-small}
-use Rattle.laws.proofs.Signed.{mag-add}
 use Rattle.numbers.specs.Limits.{valueBytes}
-use Rattle.numbers.specs.Ranges.{isController, isTime, isLength, isEventTime}
+use Rattle.numbers.specs.Ranges.{isTime, isLength, isEventTime}
 use Rattle.budget.specs.declared.Budget.{Budget}
 use Rattle.budget.specs.Budgets.{free, fits, okBudget}
 use Rattle.budget.proofs.Spending.{keeps-ok}
@@ -28,11 +25,12 @@ use Rattle.events.specs.declared.Event.{Event}
 use Rattle.eventlist.specs.Rows as rows
 use Rattle.values.specs.declared.WriteOption.{WriteOption}
 use Rattle.values.specs.Options.{okOption}
-use Rattle.values.specs.Value.{controllerEvent, bendEvent, eventFor, startOf, timeOf, eventOfOffer, wroteOf}
+use Rattle.values.specs.Value.{wroteOf}
 use Rattle.values.proofs.Options.{option-at, option-delay}
+use Rattle.values.proofs.Stored.{time-stored, in-reach}
 use Rattle.cycles.specs.Due.{DueWrite, key}
 use Rattle.cycles.specs.Calls.{State, Turn, wrote, push, eventsOf}
-use Rattle.cycles.specs.Turns.{turn, optionOf}
+use Rattle.cycles.specs.Turns.{asked, offered, turn, optionOf}
 use Rattle.cycles.proofs.Series.{push-fits}
 use Rattle.tables.specs.declared.OnNoteValues.{OnNoteValues}
 use Rattle.state.specs.declared.Track.{Track}
@@ -216,22 +214,9 @@ module _ (options : List WriteOption) (at : Onset) where
       })
 
 -- ---- times
-event-time : (target time channel v : ℤ) → eventFor target time channel v .time ≡ time
-unfolding eventFor
-event-time target time channel v = go (isController target)
-  where
-    go : (t : Bool) → cond t (controllerEvent time channel target v) (bendEvent time channel v) .time ≡ time
-    go true = refl
-    go false = refl
-
 timed : (o : WriteOption) (at : Onset) (b : Budget) (e : OnNoteValues) → isTime (at .start) ≡ true → isLength (o .delay) ≡ true → isEventTime (wroteAt o at b e .event .time) ≡ true
-unfolding wroteAt wroteOf eventOfOffer timeOf startOf isTime isLength isEventTime
-timed o at b e t d =
-    let u = sized-mag (2 ^ 40) (at .start) t in
-    let v = sized-mag (2 ^ 20) (o .delay) d in
-    let m = mag-add (at .start) (o .delay) in
-    let n = mag-add (at .start +ℤ o .delay) (pos 0) in
-    ap (sized (2 ^ 42)) (event-time (e .target) (at .start +ℤ o .delay +ℤ pos 0) (at .channel) _) ∙ sized-small (2 ^ 42) (at .start +ℤ o .delay +ℤ pos 0) (omega arith)
+unfolding wroteAt wroteOf
+timed o at b e t d = let w : DueWrite = dueAt (at .start) e in in-reach (asked o (at .channel) w) (offered w) _ (time-stored (at .start) t) d (omega arith)
 
 module _ (options : List WriteOption) (at : Onset) (ok : all okOption options ≡ true) (t : isTime (at .start) ≡ true) where
   pub in-time : (b : Budget) (es : List OnNoteValues) → all (λ (e : Event). isEventTime (e .time)) (run options at b es .events) ≡ true
