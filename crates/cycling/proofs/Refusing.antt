@@ -1,9 +1,8 @@
 -- The number of a cycle call: by division it is the same as by the list that would be left (`quick`), and what 0 tells.
 use mathlib.Core.Path.{_≡_, refl, ap, _∙_}
-use mathlib.Core.Bool.{Bool, true, false, _&&_}
+use mathlib.Core.Bool.{Bool, true, false, cond, _&&_}
 use mathlib.Core.List.{List, _++_}
 use Prim.Native.Nat.{ℕ, _+_, _/_, _≤_}
-use native.Mathlib.Omega.{arith}
 use borrow.Author.Tests.{ne-eqb, ltb-false}
 use lib.Dec.{eqb, ltb}
 use lib.IntN.{ℤ}
@@ -21,30 +20,13 @@ use Rattle.events.specs.Events.{zeroEvent}
 use Rattle.eventlist.specs.Rows.{recordWidth, numbersOf, rowsOf, eventsOf}
 use Rattle.eventlist.specs.Sound.{isList}
 use Rattle.eventlist.proofs.EventRows.{length-rowsOf}
-use Rattle.eventlist.proofs.Sound.{list-within}
+use Rattle.eventlist.proofs.Sound.{list-within, Passed, passed, no-seven}
 use Rattle.cycles.specs.declared.Cycle.{Cycle}
 use Rattle.cycles.specs.Turns.{turn, optionOf, calledState}
 use Rattle.cycles.proofs.Push.{call-count}
 use Rattle.state.specs.declared.Track.{Track}
 use Rattle.state.specs.Tests.{okLent}
 use Rattle.cycling.specs.Calls.{usedOf, leftBy, inOrder, gainsOf, cycleRefusal, quickRefusal, cycledOf, cycledList}
-
--- ---- the three tests
-
-pub passed-1 : (p q r : Bool) → inOrder p q r ≡ 0 → p ≡ true
-passed-1 true q r e = refl
-passed-1 false q r e = absurd (omega arith)
-
-pub passed-4 : (p q r : Bool) → inOrder p q r ≡ 0 → q ≡ true
-passed-4 true true r e = refl
-passed-4 true false r e = absurd (omega arith)
-passed-4 false q r e = absurd (omega arith)
-
-pub passed-7 : (p q r : Bool) → inOrder p q r ≡ 0 → r ≡ false
-passed-7 true true true e = absurd (omega arith)
-passed-7 true true false e = refl
-passed-7 true false r e = absurd (omega arith)
-passed-7 false q r e = absurd (omega arith)
 
 -- the tests behind 4
 module _ (a : Track) (cs : List Cycle) (until : ℤ) (b : Budget) (e : (isTime until && okLent a cs && okBudget b) ≡ true) where
@@ -87,18 +69,21 @@ module _ (a : Track) (size : ℕ) (cs : List Cycle) (until : ℤ) (b : Budget) (
   refused h = let n = ne-eqb (cycleRefusal a size cs until b l count) 0 h in (rw n, rw n)
 
   module _ (e : cycleRefusal a size cs until b l count ≡ 0) where
-    tests : inOrder (isList l count && eqb size places) (isTime until && okLent a cs && okBudget b) (ltb (length (rowsOf l)) (length events)) ≡ 0
+    abbrev full : Bool
+    full = ltb (length (rowsOf l)) (length events)
+
+    pub tests : Passed (isList l count && eqb size places) (isTime until && okLent a cs && okBudget b) (cond full 7 0)
     unfolding cycleRefusal
-    tests = e
+    tests = passed (isList l count && eqb size places) (isTime until && okLent a cs && okBudget b) (cond full 7 0) e
 
     pub listed : isList l count ≡ true
-    listed = left (isList l count) (eqb size places) (passed-1 (isList l count && eqb size places) (isTime until && okLent a cs && okBudget b) (ltb (length (rowsOf l)) (length events)) tests)
+    listed = left (isList l count) (eqb size places) (tests .list)
 
     pub allowed : (isTime until && okLent a cs && okBudget b) ≡ true
-    allowed = passed-4 (isList l count && eqb size places) (isTime until && okLent a cs && okBudget b) (ltb (length (rowsOf l)) (length events)) tests
+    allowed = tests .numbers
 
     pub roomy : length events ≤ length (rowsOf l)
-    roomy = ltb-false (length (rowsOf l)) (length events) (passed-7 (isList l count && eqb size places) (isTime until && okLent a cs && okBudget b) (ltb (length (rowsOf l)) (length events)) tests)
+    roomy = ltb-false (length (rowsOf l)) (length events) (no-seven full (tests .rest))
 
     pub answer : cycledOf a size cs until b l count
         ≡ record { code = 0; count = length events; budget = leftBy a cs until b (eventsOf l count) .budget; cycles = leftBy a cs until b (eventsOf l count) .table ++ drop (a .cycles) cs }

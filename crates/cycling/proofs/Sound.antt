@@ -23,7 +23,6 @@ use Rattle.budget.specs.Budgets.{okBudget, fits}
 use Rattle.counted.specs.Numbers.{okNumbers}
 use Rattle.events.specs.declared.Event.{Event}
 use Rattle.events.specs.Events.{okEvent}
-use Rattle.eventlist.specs.Rows.{rowsOf, eventsOf}
 use Rattle.eventlist.specs.Sound.{isList, okEvents}
 use Rattle.values.proofs.Options.{option-at, option-delay}
 use Rattle.values.proofs.Stored.{stored-near}
@@ -43,9 +42,9 @@ use Rattle.state.specs.Tests.{okOptions, okLent}
 use Rattle.state.proofs.Parts.{track-play, track-options}
 use Rattle.state.proofs.Play.{play-channel}
 use Rattle.state.proofs.Lent.{lent-track}
-use Rattle.cycling.specs.Calls.{usedOf, leftBy, cycleRefusal, cycledOf, cycledList}
+use Rattle.cycling.specs.Calls.{usedOf, cycleRefusal, cycledOf, cycledList}
 use Rattle.cycling.specs.Series.{Lent, answerTo, leftTo, seen, turnOn}
-use Rattle.cycling.proofs.Refusing.{passed-1, is-time, allowed}
+use Rattle.cycling.proofs.Refusing.{is-time, tests, allowed}
 use Rattle.cycling.proofs.Calling as C
 use Rattle.cycling.proofs.Keeping.{was-well, rules, well-next}
 
@@ -141,8 +140,6 @@ module _ (a : Track) (cs : List Cycle) (until : ℤ) (b : Budget) (l : List ℤ)
       record { list = w .list; events = events-next a until s z; budget = w .budget; lent = w .lent }
 
   pub cycle-sound : (size : ℕ) → cycleRefusal a size cs until b l count ≡ 0 → CycleSound a size cs until b l count
-  unfolding cycleRefusal
   cycle-sound size e =
-      let first = passed-1 (isList l count && eqb size places) (isTime until && okLent a cs && okBudget b) (ltb (length (rowsOf l)) (length (leftBy a cs until b (eventsOf l count) .events))) e in
-      let n : size ≡ places = eqb-true size places (right (isList l count) (eqb size places) first) in
+      let n : size ≡ places = eqb-true size places (right (isList l count) (eqb size places) (tests a size cs until b l count e .list)) in
       subst (λ (m : ℕ). CycleSound a m cs until b l count) (sym n) (of-sixteen (subst (λ (m : ℕ). cycleRefusal a m cs until b l count ≡ 0) n e))

@@ -34,6 +34,7 @@ use Rattle.eventlist.specs.Rows.{numbersOf, rowsOf, eventsOf}
 use Rattle.eventlist.specs.Sound.{isList}
 use Rattle.eventlist.specs.Windows.{takenBy}
 use Rattle.eventlist.proofs.EventRows.{rowsOf-flat}
+use Rattle.eventlist.proofs.Sound.{no-seven}
 use Rattle.values.proofs.Options.{option-delay}
 use Rattle.tables.specs.declared.OnNoteSine.{OnNoteSine}
 use Rattle.tables.proofs.Sines.{sine-length, sine-times}
@@ -62,10 +63,6 @@ first true true true false k e = e
 first true true false n k e = e
 first true false s n k e = e
 first false t s n k e = e
-
-no-seven : (t : Bool) → _≡_ {A = ℕ} (cond t 7 0) 0 → t ≡ false
-no-seven true e = absurd (omega arith)
-no-seven false e = refl
 
 module _ (d : Draw) where
   abbrev given : Outcome
