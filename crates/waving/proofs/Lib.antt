@@ -7,3 +7,4 @@ pub mod Alone
 pub mod Room
 pub mod Refusing
 pub mod Promises
+pub mod Sound
