@@ -16,7 +16,7 @@ use lib.IntN.{ℤ, pos}
 use lib.ListN.{length, getD, take}
 use Rattle.laws.specs.Lists.{all}
 use Rattle.laws.proofs.Parts.{all-append}
-use Rattle.numbers.specs.Ranges.{isTime, isLength, isEventTime}
+use Rattle.numbers.specs.Ranges.{isTime, isLength}
 use Rattle.budget.specs.declared.Budget.{Budget}
 use Rattle.budget.specs.Budgets.{stepBudget}
 use Rattle.counted.specs.Numbers.{shown}
@@ -33,6 +33,7 @@ use Rattle.writing.proofs.Allowed.{wave-far, sine-far}
 use Rattle.writing.proofs.Every.{Each, each-append}
 use Rattle.writing.proofs.Lasting.{lasts-expand, lasts-repeat}
 use Rattle.writing.proofs.Promises.{in-time}
+use Rattle.writing.proofs.Sound.{timed}
 use Rattle.tables.specs.declared.OnNoteWave.{OnNoteWave}
 use Rattle.tables.specs.declared.OnNoteSine.{OnNoteSine}
 use Rattle.tables.specs.Reservations.{okWave, okSine}
@@ -75,9 +76,6 @@ record Timely (d : Drawing) : Type 0 where
   time : isTime (d .write .time) ≡ true
   delay : isLength (d .write .option .delay) ≡ true
   far : (b : Budget) → b .maximum ≤ 2 ^ 26 → total (d .pieces b) ≤ 2 ^ 40
-
-abbrev pub timed : Event → Bool
-timed e = isEventTime (e .time)
 
 news-timed : (ds : List Drawing) (b : Budget) → Each Timely ds → b .maximum ≤ 2 ^ 26 → all timed (passes ds b .news) ≡ true
 unfolding passes all

@@ -27,7 +27,7 @@ use Rattle.eventlist.proofs.Sound.{Passed, passed, no-seven, SoundList, left-so
 use Rattle.offers.specs.Pieces.{offers, total}
 use Rattle.writing.specs.Figures.{budgetFor}
 use Rattle.writing.proofs.Every.{Each, each-append}
-use Rattle.writing.proofs.Sound.{new-stored, flagged-ok, spent-ok}
+use Rattle.writing.proofs.Sound.{timed, new-stored, flagged-ok, spent-ok}
 use Rattle.tables.specs.declared.OnNoteWave.{OnNoteWave}
 use Rattle.tables.specs.declared.OnNoteSine.{OnNoteSine}
 use Rattle.tables.specs.Reservations.{okWave, okSine}
@@ -43,7 +43,7 @@ use Rattle.waving.specs.Calls.{Stand, leaves, noteSteps, afterNote, room
 use Rattle.waving.specs.Passes.{Passes, noPass, passFirst, passes, newsOf, withoutAll}
 use Rattle.waving.proofs.Alone.{each-map, all-waves, all-sines}
 use Rattle.waving.proofs.Refusing.{budget-small}
-use Rattle.waving.proofs.Promises.{timed, notePasses, note-leaves, note-times}
+use Rattle.waving.proofs.Promises.{notePasses, note-leaves, note-times}
 
 -- ---- the events
 abbrev OnChannel : Drawing → Type 0
