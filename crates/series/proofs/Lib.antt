@@ -1,0 +1,5 @@
+pub mod Times
+pub mod Own
+pub mod Lent
+pub mod Demand
+pub mod Large
