@@ -1,10 +1,10 @@
--- The marked cycle, of the public call: a new track with one cycle for controller 11, over an empty list with room for five. "Cycle 24 with
--- 10,20,30 from 0, until 100: 0, 24, 48, 72, 96 with 10,20,30,10,20. Maximum 16: two written, the one at 48 lost, next 72."
-use mathlib.Core.Path.{_≡_, refl}
+-- The marked cycle, of the public calls: it is set on a new track with an empty table, and written over an empty list with room for five. "Cycle
+-- 24 with 10,20,30 from 0, until 100: 0, 24, 48, 72, 96 with 10,20,30,10,20. Maximum 16: two written, the one at 48 lost, next 72."
+use mathlib.Core.Path.{_≡_, refl, sym, ap, subst}
 use mathlib.Core.Bool.{true}
-use mathlib.Core.List.{[], _∷_, _++_}
-use lib.IntN.{pos}
-use lib.ListN.{replicate}
+use mathlib.Core.List.{List, [], _∷_, _++_}
+use Prim.Native.Nat.{ℕ}
+use lib.IntN.{ℤ, pos}
 use Rattle.laws.specs.Integers.{inside, sized}
 use Rattle.laws.specs.Lists.{all, counted}
 use Rattle.laws.specs.Keys.{absent, distinct}
@@ -24,41 +24,68 @@ use Rattle.cycles.specs.Rules.{okCycle}
 use Rattle.cycles.specs.Calls.{limit, wrote, push, share, moved as tableMoved, call}
 use Rattle.cycles.specs.Turns.{turn, calledState}
 use Rattle.tables.specs.Tables.{okCycles, lone}
-use Rattle.state.specs.declared.Track.{Track}
 use Rattle.state.specs.Track.{newTrack}
+use Rattle.state.specs.Calls.{newOf, answered}
 use Rattle.state.specs.Tests.{okPlay, okTrack, okLent}
-use Rattle.state.proofs.New.{new-passes}
 use Rattle.state.proofs.Parts.{whole, track-play, track-params, track-layers, track-options, track-tables}
+use Rattle.cycling.specs.declared.Cycled.{Cycled}
 use Rattle.cycling.specs.Calls.{cycleRefusal, cycledOf, cycledList}
-use Rattle.marked.specs.Subjects.{at, cycling, table, room, cycled}
-
-abbrev fresh : Track
-fresh = newTrack (pos 96) (pos 0)
-
-new-well : okTrack fresh ≡ true
-unfolding isTimebase inside
-new-well = new-passes (pos 96) (pos 0) refl
+use Rattle.reserving.specs.declared.Kept.{Kept}
+use Rattle.reserving.specs.Clearing.{answer, left, refusal, cleared, reserving}
+use Rattle.reserving.specs.Setting.{setOnCycle}
+use Rattle.marked.specs.Subjects.{new, noCycles, room, spent, control, set, cycling, table, cycled}
+use Rattle.marked.proofs.Fresh.{new-well}
 
 well : okTrack cycling ≡ true
-unfolding newTrack okPlay
-well =
-    whole cycling (track-play fresh new-well) (track-params fresh new-well) (track-layers fresh new-well) (track-options fresh new-well)
-    (track-tables fresh new-well) refl
+unfolding newOf answered isTimebase inside newTrack okPlay
+well = whole cycling (track-play new new-well) (track-params new new-well) (track-layers new new-well) (track-options new new-well) (track-tables new new-well) refl
 
 lent-well : okLent cycling (table (pos 0) 0) ≡ true
-unfolding okLent okCycles counted all okCycle isTarget inside isLength sized isStoredTime okNumbers isNumber zeros lone distinct absent newTrack
+unfolding okLent okCycles counted all okCycle isTarget inside isLength sized isStoredTime okNumbers isNumber zeros lone distinct absent newOf answered isTimebase newTrack
 lent-well = rw well refl
 
-pub public-plenty : (cycledOf cycling places (table (pos 0) 0) (pos 100) (unspent 1 80000) room 0
-    ≡ cycled 5 (record { seed = 1; maximum = 80000; used = 40; over = 0 }) (table (pos 120) 2))
-    × (cycledList cycling places (table (pos 0) 0) (pos 100) (unspent 1 80000) room 0
-    ≡ flat numbersOf (at 0 10 ∷ at 24 20 ∷ at 48 30 ∷ at 72 10 ∷ at 96 20 ∷ []))
-unfolding cycledOf cycledList cycleRefusal isList isTime sized inside okBudget isBytes rowsOf calledState call push wrote share tableMoved limit takes leaves dueCount steps gap run after advanced writeOf turn eventOfOffer timeOf startOf eventFor isController clamped topOf scaledFor moved rangeIn spread newTrack
-public-plenty = rw lent-well (refl, refl)
+empty-well : okLent new noCycles ≡ true
+unfolding okLent okCycles counted all lone distinct newOf answered isTimebase inside newTrack
+empty-well = rw new-well refl
 
-pub public-scarce : (cycledOf cycling places (table (pos 0) 0) (pos 100) (unspent 1 16) room 0
-    ≡ cycled 2 (record { seed = 1; maximum = 16; used = 16; over = 1 }) (table (pos 72) 0))
-    × (cycledList cycling places (table (pos 0) 0) (pos 100) (unspent 1 16) room 0
-    ≡ flat numbersOf (at 0 10 ∷ at 24 20 ∷ []) ++ replicate 24 (pos 0))
-unfolding cycledOf cycledList cycleRefusal isList isTime sized inside okBudget isBytes rowsOf calledState call push wrote share tableMoved limit takes leaves dueCount steps gap run after advanced writeOf turn eventOfOffer timeOf startOf eventFor isController clamped topOf scaledFor moved rangeIn spread newTrack
-public-scarce = rw lent-well (refl, refl)
+-- ---- setting it
+
+not-refused : refusal new places noCycles (pos 11) true true true ≡ 0
+unfolding refusal isTarget inside
+not-refused = rw empty-well
+
+pub set-is : set ≡ answer 0 cycling (table (pos 0) 0)
+unfolding setOnCycle reserving cleared isLength sized inside okNumbers counted all isNumber newOf answered isTimebase newTrack zeros left
+set-is = ap (λ (n : ℕ). left n new noCycles (answer 0 cycling (table (pos 0) 0))) (unfold newOf answered isTimebase inside newTrack in not-refused)
+
+-- ---- writing it
+
+-- a call up to 100 of a track with its table, under a maximum
+abbrev calls : Kept → ℕ → Cycled
+calls k n = cycledOf (k .track) places (k .cycles) (pos 100) (unspent 1 n) (room 5) 0
+
+abbrev lists : Kept → ℕ → List ℤ
+lists k n = cycledList (k .track) places (k .cycles) (pos 100) (unspent 1 n) (room 5) 0
+
+abbrev Leaves : Kept → ℕ → Cycled → List ℤ → Type 0
+Leaves k n r l = (calls k n ≡ r) × (lists k n ≡ l)
+
+abbrev five : List ℤ
+five = flat numbersOf (control 11 0 10 ∷ control 11 24 20 ∷ control 11 48 30 ∷ control 11 72 10 ∷ control 11 96 20 ∷ [])
+
+abbrev both : List ℤ
+both = flat numbersOf (control 11 0 10 ∷ control 11 24 20 ∷ []) ++ room 3
+
+plenty : Leaves (answer 0 cycling (table (pos 0) 0)) 80000 (cycled 5 (spent 1 80000 40 0) (table (pos 120) 2)) five
+unfolding cycledOf cycledList cycleRefusal isList isTime sized inside okBudget isBytes rowsOf calledState call push wrote share tableMoved limit takes leaves dueCount steps gap run after advanced writeOf turn eventOfOffer timeOf startOf eventFor isController clamped topOf scaledFor moved rangeIn spread newOf answered isTimebase newTrack
+plenty = rw lent-well (refl, refl)
+
+scarce : Leaves (answer 0 cycling (table (pos 0) 0)) 16 (cycled 2 (spent 1 16 16 1) (table (pos 72) 0)) both
+unfolding cycledOf cycledList cycleRefusal isList isTime sized inside okBudget isBytes rowsOf calledState call push wrote share tableMoved limit takes leaves dueCount steps gap run after advanced writeOf turn eventOfOffer timeOf startOf eventFor isController clamped topOf scaledFor moved rangeIn spread newOf answered isTimebase newTrack
+scarce = rw lent-well (refl, refl)
+
+pub public-plenty : Leaves set 80000 (cycled 5 (spent 1 80000 40 0) (table (pos 120) 2)) five
+public-plenty = subst (λ (k : Kept). Leaves k 80000 (cycled 5 (spent 1 80000 40 0) (table (pos 120) 2)) five) (sym set-is) plenty
+
+pub public-scarce : Leaves set 16 (cycled 2 (spent 1 16 16 1) (table (pos 72) 0)) both
+public-scarce = subst (λ (k : Kept). Leaves k 16 (cycled 2 (spent 1 16 16 1) (table (pos 72) 0)) both) (sym set-is) scarce

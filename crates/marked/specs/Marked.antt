@@ -1,54 +1,65 @@
--- 01, "Both sides of a line": each marked case in the document's words, and what the definitions say of it. Curves, cycles and cuts
--- are asked of the public calls: their answer, and every number that they leave. What these are asked of is in Subjects.
+-- 01, "Both sides of a line": each marked case in the document's words, as the answer of the public call that gives it, with every
+-- number that the call leaves. What the calls are asked of is in Subjects.
 use mathlib.Core.Path.{_≡_}
 use mathlib.Core.List.{[], _∷_, _++_}
-use Prim.Native.Nat.{ℕ}
-use lib.IntN.{ℤ, pos, negsuc}
-use lib.ListN.{replicate}
+use lib.IntN.{pos, negsuc}
 use Rattle.laws.specs.Rows.{flat}
 use Rattle.numbers.specs.Limits.{places}
-use Rattle.budget.specs.Budgets.{unspent, rolled}
+use Rattle.budget.specs.Budgets.{unspent}
 use Rattle.eventlist.specs.Rows.{numbersOf}
-use Rattle.shapes.specs.Curve.{curveOf}
-use Rattle.values.specs.Clamp.{clamped}
-use Rattle.offers.specs.declared.Mode.the-variants.{Expand}
-use Rattle.offers.specs.Waves.{triplesOf}
-use Rattle.writing.proofs.Cases.{lens}
 use Rattle.cutting.specs.Cuts.{plain, whole, cutTaken, cutLeft}
-use Rattle.cutting.proofs.Marked.{volume}
-use Rattle.drawing.specs.Calls.{drawAnswer, drawLeft}
+use Rattle.drawing.specs.Calls.{pbTarget, drawAnswer, drawLeft}
 use Rattle.cycling.specs.Calls.{cycledOf, cycledList}
-use Rattle.marked.specs.Subjects.{drawn, threeAndRoom, threeWritten, cycling, table, at, room, cycled, twice, bothLeft}
+use Rattle.reserving.specs.Clearing.{answer}
+use Rattle.waving.specs.Calls.{noteWritten, noteLeft}
+use Rattle.marked.specs.Subjects.{new, room, spent, outcome, control, bend, once, random, swell, halfWay, valued, drawn, threeAndRoom, waved, three, two, set, cycling, table, cycled, twice, bothLeft}
 
 pub record Marked : Type 0 where
   -- Seed 1 steps to 270369; value 64, random 10 gives 68.
-  pub seed-1 : (maximum : ℕ) → rolled (pos 64) (pos 10) (unspent 1 maximum) ≡ record { value = pos 68; budget = unspent 270369 maximum }
+  pub seed-1 : (drawAnswer (once random (pos 7) (pos 64) 1) ≡ outcome 1 (spent 270369 80 8 0))
+      × (drawLeft (once random (pos 7) (pos 64) 1) ≡ numbersOf (control 7 0 68))
   -- Seed 0 stays 0; value 64, random 10 gives 59.
-  pub seed-0 : (maximum : ℕ) → rolled (pos 64) (pos 10) (unspent 0 maximum) ≡ record { value = pos 59; budget = unspent 0 maximum }
-  -- Bend 0 with 64: 8192; with 255: 32,639.
-  pub bend-0 : (clamped (pos 128) (pos 64) ≡ pos 8192) × (clamped (pos 128) (pos 255) ≡ pos 32639)
-  -- Bend 1 with -8192: 0; with 0: 8192.
-  pub bend-1 : (clamped (pos 129) (negsuc 8191) ≡ pos 0) × (clamped (pos 129) (pos 0) ≡ pos 8192)
-  -- Curve (0,127,96) at 48: 63. (0,-127,96) at 48: -63.
-  pub half-way : (curveOf (pos 0) (pos 127) 48 96 ≡ pos 63) × (curveOf (pos 0) (negsuc 126) 48 96 ≡ negsuc 62)
+  pub seed-0 : (drawAnswer (once random (pos 7) (pos 64) 0) ≡ outcome 1 (spent 0 80 8 0))
+      × (drawLeft (once random (pos 7) (pos 64) 0) ≡ numbersOf (control 7 0 59))
+  -- Bend 0 with 64: 8192;
+  pub bend-0 : (drawAnswer (once new (pbTarget (pos 0)) (pos 64) 1) ≡ outcome 1 (spent 1 80 8 0))
+      × (drawLeft (once new (pbTarget (pos 0)) (pos 64) 1) ≡ numbersOf (bend 8192))
+  -- with 255: 32,639.
+  pub bend-0-top : (drawAnswer (once new (pbTarget (pos 0)) (pos 255) 1) ≡ outcome 1 (spent 1 80 8 0))
+      × (drawLeft (once new (pbTarget (pos 0)) (pos 255) 1) ≡ numbersOf (bend 32639))
+  -- Bend 1 with -8192: 0;
+  pub bend-1-low : (drawAnswer (once new (pbTarget (pos 1)) (negsuc 8191) 1) ≡ outcome 1 (spent 1 80 8 0))
+      × (drawLeft (once new (pbTarget (pos 1)) (negsuc 8191) 1) ≡ numbersOf (bend 0))
+  -- with 0: 8192.
+  pub bend-1 : (drawAnswer (once new (pbTarget (pos 1)) (pos 0) 1) ≡ outcome 1 (spent 1 80 8 0))
+      × (drawLeft (once new (pbTarget (pos 1)) (pos 0) 1) ≡ numbersOf (bend 8192))
+  -- Curve (0,127,96) at 48: 63.
+  pub half-up : (swell (pos 127) .code ≡ 0) × (halfWay (pos 127) ≡ valued (pos 127) (pos 63))
+  -- (0,-127,96) at 48: -63.
+  pub half-down : (swell (negsuc 126) .code ≡ 0) × (halfWay (negsuc 126) ≡ valued (negsuc 126) (negsuc 62))
   -- Curve (0,100,12), frequency 4, maximum 88: 0, 33, 66 at 0, 4, 8, flag clear.
-  pub curve-88 : (drawAnswer (drawn 88) ≡ threeWritten 88 0) × (drawLeft (drawn 88) ≡ threeAndRoom)
+  pub curve-88 : (drawAnswer (drawn 88) ≡ outcome 3 (spent 1 88 24 0)) × (drawLeft (drawn 88) ≡ threeAndRoom)
   -- Maximum 87: same events, flag set.
-  pub curve-87 : (drawAnswer (drawn 87) ≡ threeWritten 87 1) × (drawLeft (drawn 87) ≡ threeAndRoom)
+  pub curve-87 : (drawAnswer (drawn 87) ≡ outcome 3 (spent 1 87 24 1)) × (drawLeft (drawn 87) ≡ threeAndRoom)
   -- Expand lengths 3,3,4 to 7: 2,2,3.
-  pub expand-7 : (low high : ℤ) → triplesOf Expand (lens low high (3 ∷ 3 ∷ 4 ∷ [])) 7 ≡ lens low high (2 ∷ 2 ∷ 3 ∷ [])
+  pub expand-7 : (noteWritten 0 (waved three 7) (pos 0) (unspent 1 80) (room 7) 0 ≡ outcome 7 (spent 1 80 56 0))
+      × (noteLeft 0 (waved three 7) (pos 0) (unspent 1 80) (room 7) 0
+      ≡ flat numbersOf (control 7 0 0 ∷ control 7 1 10 ∷ control 7 2 20 ∷ control 7 3 30 ∷ control 7 4 40 ∷ control 7 5 50 ∷ control 7 6 60 ∷ []))
   -- Lengths 8,0 to 15: 15,0.
-  pub expand-15 : (low high : ℤ) → triplesOf Expand (lens low high (8 ∷ 0 ∷ [])) 15 ≡ lens low high (15 ∷ 0 ∷ [])
-  -- Cycle 24 with 10,20,30 from 0, until 100: 0, 24, 48, 72, 96 with 10,20,30,10,20.
-  pub cycle-plenty : (cycledOf cycling places (table (pos 0) 0) (pos 100) (unspent 1 80000) room 0
-      ≡ cycled 5 (record { seed = 1; maximum = 80000; used = 40; over = 0 }) (table (pos 120) 2))
-      × (cycledList cycling places (table (pos 0) 0) (pos 100) (unspent 1 80000) room 0
-      ≡ flat numbersOf (at 0 10 ∷ at 24 20 ∷ at 48 30 ∷ at 72 10 ∷ at 96 20 ∷ []))
+  pub expand-15 : (noteWritten 0 (waved two 15) (pos 0) (unspent 1 160) (room 15) 0 ≡ outcome 15 (spent 1 160 120 0))
+      × (noteLeft 0 (waved two 15) (pos 0) (unspent 1 160) (room 15) 0
+      ≡ flat numbersOf (control 7 0 0 ∷ control 7 1 1 ∷ control 7 2 2 ∷ control 7 3 3 ∷ control 7 4 4 ∷ control 7 5 5 ∷ control 7 6 6 ∷ control 7 7 7
+      ∷ control 7 8 8 ∷ control 7 9 9 ∷ control 7 10 10 ∷ control 7 11 11 ∷ control 7 12 12 ∷ control 7 13 13 ∷ control 7 14 14 ∷ []))
+  -- Cycle 24 with 10,20,30 from 0,
+  pub cycle-set : set ≡ answer 0 cycling (table (pos 0) 0)
+  -- until 100: 0, 24, 48, 72, 96 with 10,20,30,10,20.
+  pub cycle-plenty : (cycledOf (set .track) places (set .cycles) (pos 100) (unspent 1 80000) (room 5) 0 ≡ cycled 5 (spent 1 80000 40 0) (table (pos 120) 2))
+      × (cycledList (set .track) places (set .cycles) (pos 100) (unspent 1 80000) (room 5) 0
+      ≡ flat numbersOf (control 11 0 10 ∷ control 11 24 20 ∷ control 11 48 30 ∷ control 11 72 10 ∷ control 11 96 20 ∷ []))
   -- Maximum 16: two written, the one at 48 lost, next 72.
-  pub cycle-scarce : (cycledOf cycling places (table (pos 0) 0) (pos 100) (unspent 1 16) room 0
-      ≡ cycled 2 (record { seed = 1; maximum = 16; used = 16; over = 1 }) (table (pos 72) 0))
-      × (cycledList cycling places (table (pos 0) 0) (pos 100) (unspent 1 16) room 0 ≡ flat numbersOf (at 0 10 ∷ at 24 20 ∷ []) ++ replicate 24 (pos 0))
+  pub cycle-scarce : (cycledOf (set .track) places (set .cycles) (pos 100) (unspent 1 16) (room 5) 0 ≡ cycled 2 (spent 1 16 16 1) (table (pos 72) 0))
+      × (cycledList (set .track) places (set .cycles) (pos 100) (unspent 1 16) (room 5) 0 ≡ flat numbersOf (control 11 0 10 ∷ control 11 24 20 ∷ []) ++ room 3)
   -- CC7=90 at 0, CC7=100 at 10, cut at 10: list order 100, 90.
-  pub cut-plain : (cutTaken 0 twice 2 (plain (pos 10)) ≡ bothLeft) × (cutLeft 0 twice 2 (plain (pos 10)) ≡ flat numbersOf (volume 0 100 ∷ volume 0 90 ∷ []))
+  pub cut-plain : (cutTaken 0 twice 2 (plain (pos 10)) ≡ bothLeft) × (cutLeft 0 twice 2 (plain (pos 10)) ≡ flat numbersOf (control 7 0 100 ∷ control 7 0 90 ∷ []))
   -- Full cut: 90, 100.
-  pub cut-full : (cutTaken 0 twice 2 (whole (pos 10)) ≡ bothLeft) × (cutLeft 0 twice 2 (whole (pos 10)) ≡ flat numbersOf (volume 0 90 ∷ volume 0 100 ∷ []))
+  pub cut-full : (cutTaken 0 twice 2 (whole (pos 10)) ≡ bothLeft) × (cutLeft 0 twice 2 (whole (pos 10)) ≡ flat numbersOf (control 7 0 90 ∷ control 7 0 100 ∷ []))

@@ -1,59 +1,115 @@
--- What the marked cases of whole calls are asked of, and what they leave.
+-- What the marked cases are asked of, each made by public calls from a new track or parameter, and what they leave.
 use mathlib.Core.List.{List, [], _∷_, _++_}
-use Prim.Native.Nat.{ℕ}
+use Prim.Native.Nat.{ℕ, _*_}
 use lib.IntN.{ℤ, pos}
 use lib.ListN.{replicate}
 use Rattle.laws.specs.Rows.{flat}
+use Rattle.numbers.specs.Limits.{places}
 use Rattle.budget.specs.declared.Budget.{Budget}
 use Rattle.budget.specs.Budgets.{unspent}
 use Rattle.counted.specs.Numbers.{numbers}
 use Rattle.events.specs.declared.Event.{Event}
+use Rattle.events.specs.Events.{ccEvent, pitchBendEvent}
 use Rattle.eventlist.specs.declared.Taken.{Taken}
 use Rattle.eventlist.specs.Rows.{numbersOf}
-use Rattle.cutting.proofs.Marked.{volume}
-use Rattle.values.specs.Value.{controllerEvent}
+use Rattle.params.specs.declared.ParamAnswer.{ParamAnswer}
+use Rattle.params.specs.declared.ParamValue.{ParamValue}
+use Rattle.params.specs.Param as parameter
+use Rattle.params.specs.Calls.{setOnTime, calcOnTime}
 use Rattle.cycles.specs.declared.Cycle.{Cycle}
 use Rattle.tables.specs.Tables.{noCycle}
+use Rattle.tables.specs.Reservations.{expand}
 use Rattle.writing.specs.declared.Outcome.{Outcome}
-use Rattle.writing.proofs.Cases.{three}
 use Rattle.state.specs.declared.Track.{Track}
-use Rattle.state.specs.Track.{newTrack, noNotes, noWaves, noSines, withTables}
+use Rattle.state.specs.Track.{noNotes, noWaves, noSines, withTables}
+use Rattle.state.specs.Calls.{newOf, setTimepos, setCcFreq}
+use Rattle.drawing.specs.Options.{setRandom}
 use Rattle.drawing.specs.Calls.{Draw, onTime}
 use Rattle.cycling.specs.declared.Cycled.{Cycled}
+use Rattle.reserving.specs.declared.Kept.{Kept}
+use Rattle.reserving.specs.Setting.{setOnNoteWave, setOnCycle}
+
+-- ---- a track of timebase 96 on channel 0; a cycle table and a list in which nothing stands
+abbrev pub new : Track
+new = newOf (pos 96) (pos 0) .track
+
+abbrev pub noCycles : List Cycle
+noCycles = replicate places noCycle
+
+-- room for so many events
+abbrev pub room : ℕ → List ℤ
+room n = replicate (n * 8) (pos 0)
+
+-- what is left of a budget of which nothing was used
+abbrev pub spent : ℕ → ℕ → ℕ → ℕ → Budget
+spent seed maximum used over = record { seed = seed; maximum = maximum; used = used; over = over }
+
+abbrev pub outcome : ℕ → Budget → Outcome
+outcome count b = record { code = 0; count = count; budget = b }
+
+-- controller k at a time, and a bend at 0, on channel 0
+abbrev pub control : ℕ → ℕ → ℕ → Event
+control k time value = ccEvent (pos time) (pos 0) (pos k) (pos value)
+
+abbrev pub bend : ℕ → Event
+bend value = pitchBendEvent (pos 0) (pos 0) (pos value)
+
+-- ---- one value: a curve of one step that begins with it, over a list with room for one
+abbrev pub once : Track → ℤ → ℤ → ℕ → Draw
+once a target v seed = onTime a target (v ∷ v ∷ pos 1 ∷ []) (unspent seed 80) (room 1) 0 0
+
+-- controller 7 with random 10
+abbrev pub random : Track
+random = setRandom new (pos 7) (pos 10) .track
+
+-- ---- a parameter with a curve from time 0 on, and its value at 48; 5 is the caller's default
+abbrev pub swell : ℤ → ParamAnswer
+swell high = setOnTime parameter.fresh (pos 0) (pos 0 ∷ high ∷ pos 96 ∷ [])
+
+abbrev pub halfWay : ℤ → ParamValue
+halfWay high = calcOnTime (swell high .param) (pos 48) (pos 5)
+
+abbrev pub valued : ℤ → ℤ → ParamValue
+valued high v = record { code = 0; value = v; param = swell high .param }
 
 -- ---- a curve on a new track, whose frequency is 4, over an empty list with room for four
 abbrev pub drawn : ℕ → Draw
-drawn n = onTime (newTrack (pos 96) (pos 0)) (pos 7) (pos 0 ∷ pos 100 ∷ pos 12 ∷ []) (unspent 1 n) (replicate 32 (pos 0)) 0 0
+drawn n = onTime new (pos 7) (pos 0 ∷ pos 100 ∷ pos 12 ∷ []) (unspent 1 n) (room 4) 0 0
 
 -- the three events, and the place that is left
 abbrev pub threeAndRoom : List ℤ
-threeAndRoom = flat numbersOf three ++ replicate 8 (pos 0)
+threeAndRoom = flat numbersOf (control 7 0 0 ∷ control 7 4 33 ∷ control 7 8 66 ∷ []) ++ room 1
 
-abbrev pub threeWritten : ℕ → ℕ → Outcome
-threeWritten n over = record { code = 0; count = 3; budget = record { seed = 1; maximum = n; used = 24; over = over } }
+-- ---- an Expand wave for controller 7, written at every step of a note that begins at 0 and ends at n
+abbrev pub waved : List ℤ → ℕ → Track
+waved v n = setTimepos (setOnNoteWave (setCcFreq new (pos 1) .track) places noCycles (pos 7) expand v .track) (pos n) .track
 
--- ---- one cycle on a new track, over an empty list with room for five
+-- lengths 3,3,4: from 0 to 20, to 40, to 70
+abbrev pub three : List ℤ
+three = pos 0 ∷ pos 20 ∷ pos 3 ∷ pos 20 ∷ pos 40 ∷ pos 3 ∷ pos 40 ∷ pos 70 ∷ pos 4 ∷ []
+
+-- lengths 8,0: from 0 to 15, and 100
+abbrev pub two : List ℤ
+two = pos 0 ∷ pos 15 ∷ pos 8 ∷ pos 100 ∷ pos 100 ∷ pos 0 ∷ []
+
+-- ---- one cycle on a new track
+abbrev pub set : Kept
+set = setOnCycle new places noCycles (pos 11) (pos 24) (pos 10 ∷ pos 20 ∷ pos 30 ∷ [])
+
 abbrev pub cycling : Track
-cycling = withTables (newTrack (pos 96) (pos 0)) noNotes noWaves noSines 1
+cycling = withTables new noNotes noWaves noSines 1
 
 -- the value at i next, at time n; the other fifteen records are unused
 abbrev pub table : ℤ → ℕ → List Cycle
 table n i =
     record { target = pos 11; length = pos 24; next = n; index = i; values = numbers (pos 10 ∷ pos 20 ∷ pos 30 ∷ []) } ∷ replicate 15 noCycle
 
--- what one of its writes leaves
-abbrev pub at : ℕ → ℕ → Event
-at time value = controllerEvent (pos time) (pos 0) (pos 11) (pos value)
-
-abbrev pub room : List ℤ
-room = replicate 40 (pos 0)
-
 abbrev pub cycled : ℕ → Budget → List Cycle → Cycled
 cycled count b cs = record { code = 0; count = count; budget = b; cycles = cs }
 
 -- ---- "CC7=90 at 0, CC7=100 at 10"
 abbrev pub twice : List ℤ
-twice = flat numbersOf (volume 0 90 ∷ volume 10 100 ∷ [])
+twice = flat numbersOf (control 7 0 90 ∷ control 7 10 100 ∷ [])
 
 abbrev pub bothLeft : Taken
 bothLeft = record { code = 0; count = 2 }
