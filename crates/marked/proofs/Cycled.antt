@@ -2,9 +2,9 @@
 -- 24 with 10,20,30 from 0, until 100: 0, 24, 48, 72, 96 with 10,20,30,10,20. Maximum 16: two written, the one at 48 lost, next 72."
 use mathlib.Core.Path.{_≡_, refl, sym, ap, subst}
 use mathlib.Core.Bool.{true}
-use mathlib.Core.List.{List, [], _∷_, _++_}
+use mathlib.Core.List.{[], _∷_, _++_}
 use Prim.Native.Nat.{ℕ}
-use lib.IntN.{ℤ, pos}
+use lib.IntN.{pos}
 use Rattle.laws.specs.Integers.{inside, sized}
 use Rattle.laws.specs.Lists.{all, counted}
 use Rattle.laws.specs.Keys.{absent, distinct}
@@ -12,7 +12,7 @@ use Rattle.laws.specs.Rows.{flat}
 use Rattle.numbers.specs.Limits.{places}
 use Rattle.numbers.specs.Ranges.{isTime, isStoredTime, isController, isTarget, isNumber, isLength, isTimebase, isBytes}
 use Rattle.numbers.specs.Random.{spread}
-use Rattle.budget.specs.Budgets.{unspent, okBudget}
+use Rattle.budget.specs.Budgets.{okBudget}
 use Rattle.counted.specs.Numbers.{zeros, okNumbers}
 use Rattle.eventlist.specs.Rows.{numbersOf, rowsOf}
 use Rattle.eventlist.specs.Sound.{isList}
@@ -28,12 +28,11 @@ use Rattle.state.specs.Track.{newTrack}
 use Rattle.state.specs.Calls.{newOf, answered}
 use Rattle.state.specs.Tests.{okPlay, okTrack, okLent}
 use Rattle.state.proofs.Parts.{whole, track-play, track-params, track-layers, track-options, track-tables}
-use Rattle.cycling.specs.declared.Cycled.{Cycled}
 use Rattle.cycling.specs.Calls.{cycleRefusal, cycledOf, cycledList}
 use Rattle.reserving.specs.declared.Kept.{Kept}
 use Rattle.reserving.specs.Clearing.{answer, left, refusal, cleared, reserving}
 use Rattle.reserving.specs.Setting.{setOnCycle}
-use Rattle.marked.specs.Subjects.{new, noCycles, room, spent, control, set, cycling, table, cycled}
+use Rattle.marked.specs.Subjects.{new, noCycles, room, funds, control, set, cycling, table, CycleLeaves, cycled}
 use Rattle.marked.proofs.Fresh.{new-well}
 
 well : okTrack cycling ≡ true
@@ -60,32 +59,20 @@ set-is = ap (λ (n : ℕ). left n new noCycles (answer 0 cycling (table (pos 0) 
 
 -- ---- writing it
 
--- a call up to 100 of a track with its table, under a maximum
-abbrev calls : Kept → ℕ → Cycled
-calls k n = cycledOf (k .track) places (k .cycles) (pos 100) (unspent 1 n) (room 5) 0
+abbrev Plenty : Kept → Type 0
+Plenty k =
+    CycleLeaves k 80000 (cycled 5 (funds 1 80000 40 0) (table (pos 120) 2))
+    (flat numbersOf (control 11 0 10 ∷ control 11 24 20 ∷ control 11 48 30 ∷ control 11 72 10 ∷ control 11 96 20 ∷ []))
 
-abbrev lists : Kept → ℕ → List ℤ
-lists k n = cycledList (k .track) places (k .cycles) (pos 100) (unspent 1 n) (room 5) 0
+abbrev Scarce : Kept → Type 0
+Scarce k = CycleLeaves k 16 (cycled 2 (funds 1 16 16 1) (table (pos 72) 0)) (flat numbersOf (control 11 0 10 ∷ control 11 24 20 ∷ []) ++ room 3)
 
-abbrev Leaves : Kept → ℕ → Cycled → List ℤ → Type 0
-Leaves k n r l = (calls k n ≡ r) × (lists k n ≡ l)
-
-abbrev five : List ℤ
-five = flat numbersOf (control 11 0 10 ∷ control 11 24 20 ∷ control 11 48 30 ∷ control 11 72 10 ∷ control 11 96 20 ∷ [])
-
-abbrev both : List ℤ
-both = flat numbersOf (control 11 0 10 ∷ control 11 24 20 ∷ []) ++ room 3
-
-plenty : Leaves (answer 0 cycling (table (pos 0) 0)) 80000 (cycled 5 (spent 1 80000 40 0) (table (pos 120) 2)) five
+written : Plenty (answer 0 cycling (table (pos 0) 0)) × Scarce (answer 0 cycling (table (pos 0) 0))
 unfolding cycledOf cycledList cycleRefusal isList isTime sized inside okBudget isBytes rowsOf calledState call push wrote share tableMoved limit takes leaves dueCount steps gap run after advanced writeOf turn eventOfOffer timeOf startOf eventFor isController clamped topOf scaledFor moved rangeIn spread newOf answered isTimebase newTrack
-plenty = rw lent-well (refl, refl)
+written = (record { answer = rw lent-well; left = rw lent-well }, record { answer = rw lent-well; left = rw lent-well })
 
-scarce : Leaves (answer 0 cycling (table (pos 0) 0)) 16 (cycled 2 (spent 1 16 16 1) (table (pos 72) 0)) both
-unfolding cycledOf cycledList cycleRefusal isList isTime sized inside okBudget isBytes rowsOf calledState call push wrote share tableMoved limit takes leaves dueCount steps gap run after advanced writeOf turn eventOfOffer timeOf startOf eventFor isController clamped topOf scaledFor moved rangeIn spread newOf answered isTimebase newTrack
-scarce = rw lent-well (refl, refl)
+pub plenty : Plenty set
+plenty = subst (λ (k : Kept). Plenty k) (sym set-is) (written .0)
 
-pub public-plenty : Leaves set 80000 (cycled 5 (spent 1 80000 40 0) (table (pos 120) 2)) five
-public-plenty = subst (λ (k : Kept). Leaves k 80000 (cycled 5 (spent 1 80000 40 0) (table (pos 120) 2)) five) (sym set-is) plenty
-
-pub public-scarce : Leaves set 16 (cycled 2 (spent 1 16 16 1) (table (pos 72) 0)) both
-public-scarce = subst (λ (k : Kept). Leaves k 16 (cycled 2 (spent 1 16 16 1) (table (pos 72) 0)) both) (sym set-is) scarce
+pub scarce : Scarce set
+scarce = subst (λ (k : Kept). Scarce k) (sym set-is) (written .1)

@@ -1,37 +1,76 @@
--- The marked curve, of the public call: on a new track, over an empty list with room for four. "Curve (0,100,12), frequency 4, maximum
--- 88: 0, 33, 66 at 0, 4, 8, flag clear. Maximum 87: same events, flag set." A new track has the frequency 4.
-use mathlib.Core.Path.{_≡_, refl}
+-- The marked seeds, bends and curves, of the public writes: on a new track, over an empty list; a curve of one step writes one value. "Seed 1
+-- steps to 270369; value 64, random 10 gives 68. Seed 0 stays 0; value 64, random 10 gives 59. Bend 0 with 64: 8192; with 255: 32,639. Bend 1
+-- with -8192: 0; with 0: 8192. Curve (0,100,12), frequency 4, maximum 88: 0, 33, 66 at 0, 4, 8, flag clear. Maximum 87: same events, flag set." A
+-- new track has the frequency 4.
+use mathlib.Core.Path.{_≡_, refl, sym, subst}
+use mathlib.Core.Bool.{true}
+use lib.IntN.{pos, negsuc}
 use Rattle.laws.specs.Integers.{inside, sized}
 use Rattle.laws.specs.Lists.{all}
-use Rattle.numbers.specs.Ranges.{isController, isTarget, isNumber, isLength, isTimebase, isBytes}
+use Rattle.numbers.specs.Ranges.{isController, isTarget, isNumber, isLength, isRandom, isTimebase, isBytes}
 use Rattle.numbers.specs.Random.{spread}
 use Rattle.budget.specs.Budgets.{okBudget}
 use Rattle.counted.specs.Curves as curves
-use Rattle.eventlist.specs.Rows.{rowsOf}
+use Rattle.eventlist.specs.Rows.{numbersOf, rowsOf}
 use Rattle.eventlist.specs.Sound.{isList, okEvents}
 use Rattle.eventlist.specs.Windows.{takenBy}
 use Rattle.shapes.specs.Curve.{curveOf}
-use Rattle.values.specs.Options.{rangeIn, moved}
+use Rattle.values.specs.Options.{okOption, rangeIn, moved}
 use Rattle.values.specs.Clamp.{topOf, scaledFor, clamped}
 use Rattle.values.specs.Value.{kindOf, eventFor, startOf, timeOf, eventOfOffer}
-use Rattle.offers.specs.Rules.{ruleOf, fresh, become, seedsAfter, spent as spentBy}
+use Rattle.offers.specs.Rules.{ruleOf, fresh, become, seedsAfter, spent}
 use Rattle.offers.specs.Runs.{offered, newEvents, budgetAfter}
 use Rattle.offers.specs.Pieces.{valueBy, steps, points, offers, total}
 use Rattle.offers.specs.Waves.{triples}
 use Rattle.writing.specs.Calls.{windowOf, keptEvents}
+use Rattle.state.specs.declared.Track.{Track}
 use Rattle.state.specs.Track.{newTrack}
+use Rattle.state.specs.Tests.{okPlay, okOptions, okTrack}
 use Rattle.state.specs.Calls.{newOf, answered}
-use Rattle.drawing.specs.Options.{optionOf}
-use Rattle.drawing.specs.Frequency.{freqFor}
+use Rattle.state.proofs.Parts.{whole, track-play, track-params, track-layers, track-tables}
+use Rattle.drawing.specs.Options.{targetRefusal, optionOf, withOption, withRandom, left}
+use Rattle.drawing.specs.Frequency.{freqFor, bendFreq}
 use Rattle.drawing.specs.Write.{writeOf}
-use Rattle.drawing.specs.Calls.{inOrder, drawRefusal, drawAnswer, drawLeft}
-use Rattle.marked.specs.Subjects.{spent, outcome, drawn, threeAndRoom}
-use Rattle.marked.proofs.Fresh.{new-well}
+use Rattle.drawing.specs.Calls.{inOrder, pbTarget, drawRefusal, drawAnswer, drawLeft, Drawn}
+use Rattle.marked.specs.Subjects.{new, funds, outcome, control, bend, once, random, drawn, threeAndRoom}
+use Rattle.marked.proofs.Fresh.{new-well, accepted}
 
-pub public-88 : (drawAnswer (drawn 88) ≡ outcome 3 (spent 1 88 24 0)) × (drawLeft (drawn 88) ≡ threeAndRoom)
-unfolding drawAnswer drawLeft drawRefusal inOrder isList isTarget okBudget isBytes curves.isCurve curves.hasLength curves.triples isNumber isLength sized inside all okEvents rowsOf takenBy windowOf keptEvents newEvents offered fresh offers points steps valueBy become total triples budgetAfter spentBy seedsAfter ruleOf eventOfOffer eventFor timeOf startOf kindOf clamped scaledFor topOf isController moved rangeIn spread curveOf writeOf freqFor optionOf newTrack newOf answered isTimebase
-public-88 = rw new-well (refl, refl)
+-- the track with random 10 for controller 7
+abbrev shaky : Track
+shaky = withOption new (pos 7) (withRandom (optionOf new (pos 7)) (pos 10))
 
-pub public-87 : (drawAnswer (drawn 87) ≡ outcome 3 (spent 1 87 24 1)) × (drawLeft (drawn 87) ≡ threeAndRoom)
-unfolding drawAnswer drawLeft drawRefusal inOrder isList isTarget okBudget isBytes curves.isCurve curves.hasLength curves.triples isNumber isLength sized inside all okEvents rowsOf takenBy windowOf keptEvents newEvents offered fresh offers points steps valueBy become total triples budgetAfter spentBy seedsAfter ruleOf eventOfOffer eventFor timeOf startOf kindOf clamped scaledFor topOf isController moved rangeIn spread curveOf writeOf freqFor optionOf newTrack newOf answered isTimebase
-public-87 = rw new-well (refl, refl)
+allowed : targetRefusal new (pos 7) (isRandom (pos 10)) ≡ 0
+unfolding targetRefusal isTarget isRandom inside
+allowed = rw new-well
+
+random-is : random ≡ shaky
+unfolding left
+random-is = accepted (targetRefusal new (pos 7) (isRandom (pos 10))) new shaky allowed
+
+shaky-well : okTrack shaky ≡ true
+unfolding okPlay withOption optionOf newOf answered isTimebase inside newTrack okOptions all okOption isLength isRandom sized
+shaky-well = whole shaky (track-play new new-well) (track-params new new-well) (track-layers new new-well) refl (track-tables new new-well) refl
+
+-- ---- the writes, computed
+
+abbrev Seeds : Track → Type 0
+Seeds a = Drawn (once a (pos 7) (pos 64) 1) (outcome 1 (funds 270369 80 8 0)) (numbersOf (control 7 0 68))
+    × Drawn (once a (pos 7) (pos 64) 0) (outcome 1 (funds 0 80 8 0)) (numbersOf (control 7 0 59))
+
+on-shaky : Seeds shaky
+unfolding drawAnswer drawLeft drawRefusal inOrder isList isTarget okBudget isBytes curves.isCurve curves.hasLength curves.triples isNumber isLength sized inside all okEvents rowsOf takenBy windowOf keptEvents newEvents offered fresh offers points steps valueBy become total triples budgetAfter spent seedsAfter ruleOf eventOfOffer eventFor timeOf startOf kindOf clamped scaledFor topOf isController moved rangeIn spread curveOf writeOf freqFor bendFreq optionOf withOption newOf answered isTimebase newTrack
+on-shaky = (record { answer = rw shaky-well; left = rw shaky-well }, record { answer = rw shaky-well; left = rw shaky-well })
+
+pub seeds : Seeds random
+seeds = subst (λ (a : Track). Seeds a) (sym random-is) on-shaky
+
+pub bends : Drawn (once new (pbTarget (pos 0)) (pos 64) 1) (outcome 1 (funds 1 80 8 0)) (numbersOf (bend 8192))
+    × Drawn (once new (pbTarget (pos 0)) (pos 255) 1) (outcome 1 (funds 1 80 8 0)) (numbersOf (bend 32639))
+    × Drawn (once new (pbTarget (pos 1)) (negsuc 8191) 1) (outcome 1 (funds 1 80 8 0)) (numbersOf (bend 0))
+    × Drawn (once new (pbTarget (pos 1)) (pos 0) 1) (outcome 1 (funds 1 80 8 0)) (numbersOf (bend 8192))
+unfolding drawAnswer drawLeft drawRefusal inOrder isList isTarget okBudget isBytes curves.isCurve curves.hasLength curves.triples isNumber isLength sized inside all okEvents rowsOf takenBy windowOf keptEvents newEvents offered fresh offers points steps valueBy become total triples budgetAfter spent seedsAfter ruleOf eventOfOffer eventFor timeOf startOf kindOf clamped scaledFor topOf isController moved rangeIn spread curveOf writeOf freqFor bendFreq optionOf withOption newOf answered isTimebase newTrack
+bends = (record { answer = rw new-well; left = rw new-well }, record { answer = rw new-well; left = rw new-well }, record { answer = rw new-well; left = rw new-well }, record { answer = rw new-well; left = rw new-well })
+
+pub curves-88-87 : Drawn (drawn 88) (outcome 3 (funds 1 88 24 0)) threeAndRoom × Drawn (drawn 87) (outcome 3 (funds 1 87 24 1)) threeAndRoom
+unfolding drawAnswer drawLeft drawRefusal inOrder isList isTarget okBudget isBytes curves.isCurve curves.hasLength curves.triples isNumber isLength sized inside all okEvents rowsOf takenBy windowOf keptEvents newEvents offered fresh offers points steps valueBy become total triples budgetAfter spent seedsAfter ruleOf eventOfOffer eventFor timeOf startOf kindOf clamped scaledFor topOf isController moved rangeIn spread curveOf writeOf freqFor bendFreq optionOf withOption newOf answered isTimebase newTrack
+curves-88-87 = (record { answer = rw new-well; left = rw new-well }, record { answer = rw new-well; left = rw new-well })

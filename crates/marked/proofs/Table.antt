@@ -1,30 +1,27 @@
 -- Every marked case holds: each is computed from the definitions that the public contracts cite.
 use Rattle.marked.specs.Marked.{Marked}
-use Rattle.marked.proofs.Once.{public-seed-1, public-seed-0, public-bend-0, public-bend-0-top, public-bend-1-low, public-bend-1}
-use Rattle.marked.proofs.Valued.{public-up, public-down}
-use Rattle.marked.proofs.Drawn.{public-88, public-87}
-use Rattle.marked.proofs.Waved.{public-7, public-15}
-use Rattle.marked.proofs.Cycled.{set-is, public-plenty, public-scarce}
-use Rattle.marked.proofs.Cut.{public-plain, public-full}
+use Rattle.marked.proofs.Drawn.{seeds, bends, curves-88-87}
+use Rattle.marked.proofs.Valued as valued
+use Rattle.marked.proofs.Waved.{seven, fifteen}
+use Rattle.marked.proofs.Cycled.{set-is, plenty, scarce}
+use Rattle.marked.proofs.Cut as cut
 
 pub table : Marked
 table =
     record {
-      seed-1 = public-seed-1;
-      seed-0 = public-seed-0;
-      bend-0 = public-bend-0;
-      bend-0-top = public-bend-0-top;
-      bend-1-low = public-bend-1-low;
-      bend-1 = public-bend-1;
-      half-up = public-up;
-      half-down = public-down;
-      curve-88 = public-88;
-      curve-87 = public-87;
-      expand-7 = public-7;
-      expand-15 = public-15;
+      seed-1 = seeds .0;
+      seed-0 = seeds .1;
+      bend-0 = (bends .0, bends .1);
+      bend-1 = (bends .2, bends .3);
+      half-up = valued.both .0;
+      half-down = valued.both .1;
+      curve-88 = curves-88-87 .0;
+      curve-87 = curves-88-87 .1;
+      expand-7 = seven;
+      expand-15 = fifteen;
       cycle-set = set-is;
-      cycle-plenty = public-plenty;
-      cycle-scarce = public-scarce;
-      cut-plain = public-plain;
-      cut-full = public-full;
+      cycle-plenty = plenty;
+      cycle-scarce = scarce;
+      cut-plain = cut.both .0;
+      cut-full = cut.both .1;
     }

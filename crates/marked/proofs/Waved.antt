@@ -12,7 +12,7 @@ use Rattle.laws.specs.Rows.{flat}
 use Rattle.numbers.specs.Limits.{places}
 use Rattle.numbers.specs.Ranges.{isTime, isChannel, isController, isTarget, isNumber, isLength, isTimebase, isBytes}
 use Rattle.numbers.specs.Random.{spread}
-use Rattle.budget.specs.Budgets.{unspent, okBudget}
+use Rattle.budget.specs.Budgets.{okBudget}
 use Rattle.counted.specs.Numbers.{zeros, numbers, okNumbers}
 use Rattle.counted.specs.Curves as curves
 use Rattle.eventlist.specs.Rows.{numbersOf, rowsOf}
@@ -25,11 +25,10 @@ use Rattle.values.specs.Value.{kindOf, eventFor, startOf, timeOf, eventOfOffer}
 use Rattle.tables.specs.declared.OnNoteWave.{OnNoteWave}
 use Rattle.tables.specs.Reservations.{expand, forward, okWave}
 use Rattle.tables.specs.Tables.{wavesWith, okNotes, okWaves, okSines, okCycles, lone}
-use Rattle.offers.specs.Rules.{ruleOf, fresh, become, seedsAfter, spent as spentBy}
+use Rattle.offers.specs.Rules.{ruleOf, fresh, become, seedsAfter, spent}
 use Rattle.offers.specs.Runs.{offered, newEvents, budgetAfter}
 use Rattle.offers.specs.Pieces.{valueBy, steps, points, offers, total}
 use Rattle.offers.specs.Waves.{triples, triplesOf, expand as expanded}
-use Rattle.writing.specs.declared.Outcome.{Outcome}
 use Rattle.writing.specs.Calls.{windowOf, keptEvents}
 use Rattle.state.specs.declared.Track.{Track}
 use Rattle.state.specs.Track.{newTrack, noNotes, noWaves, noSines, withTables, withTimepos, withCcFreq}
@@ -43,8 +42,8 @@ use Rattle.drawing.specs.Write.{writeOf}
 use Rattle.reserving.specs.Clearing.{answer, left, refusal, cleared, reserving}
 use Rattle.reserving.specs.Setting.{isShort, waveOf, setOnNoteWave}
 use Rattle.waving.specs.Drawings.{waveDrawing, drawingsOf}
-use Rattle.waving.specs.Calls.{leaves, drawnAll, noteRefusal, noteWritten, noteLeft}
-use Rattle.marked.specs.Subjects.{new, noCycles, room, spent, outcome, control, waved, three, two}
+use Rattle.waving.specs.Calls.{leaves, drawnAll, noteRefusal}
+use Rattle.marked.specs.Subjects.{new, noCycles, funds, outcome, control, WaveLeaves, waved, three, two}
 use Rattle.marked.proofs.Fresh.{new-well, accepted}
 
 -- ---- the frequency
@@ -107,10 +106,7 @@ module _ (v : List ℤ) (n : ℕ) (short : isShort v ≡ true) (e : okWave (wave
       ∙ ap (λ (a : Track). setTimepos a (pos n) .track) wavy-is
       ∙ accepted (demand (okTrack (wavy v) && isTime (pos n))) (wavy v) (ended v n) ended-allowed
 
--- ---- writing it at a note that begins at 0
-
-abbrev Leaves : Track → ℕ → ℕ → Outcome → List ℤ → Type 0
-Leaves a maximum many r l = (noteWritten 0 a (pos 0) (unspent 1 maximum) (room many) 0 ≡ r) × (noteLeft 0 a (pos 0) (unspent 1 maximum) (room many) 0 ≡ l)
+-- ---- writing it
 
 three-ok : okWave (wave three) ≡ true
 unfolding okWave curves.okCurve curves.hasLength curves.triples okNumbers counted all isNumber isLength isTarget sized inside zeros forward
@@ -120,16 +116,6 @@ three-ends : isTime (pos 7) ≡ true
 unfolding isTime sized inside
 three-ends = refl
 
-abbrev to-7 : List ℤ
-to-7 = flat numbersOf (control 7 0 0 ∷ control 7 1 10 ∷ control 7 2 20 ∷ control 7 3 30 ∷ control 7 4 40 ∷ control 7 5 50 ∷ control 7 6 60 ∷ [])
-
-written-7 : Leaves (ended three 7) 80 7 (outcome 7 (spent 1 80 56 0)) to-7
-unfolding noteRefusal drawnAll leaves drawingsOf waveDrawing isList isTime okBudget isBytes sized inside all okEvents rowsOf takenBy windowOf keptEvents newEvents offered fresh offers points steps valueBy become total triples triplesOf expanded budgetAfter spentBy seedsAfter ruleOf eventOfOffer eventFor timeOf startOf kindOf clamped scaledFor topOf isController moved rangeIn spread curveOf writeOf freqFor optionOf newOf answered isTimebase newTrack zeros
-written-7 = rw (ended-well three 7 refl three-ok three-ends) (refl, refl)
-
-pub public-7 : Leaves (waved three 7) 80 7 (outcome 7 (spent 1 80 56 0)) to-7
-public-7 = subst (λ (a : Track). Leaves a 80 7 (outcome 7 (spent 1 80 56 0)) to-7) (sym (ended-is three 7 refl three-ok three-ends)) written-7
-
 two-ok : okWave (wave two) ≡ true
 unfolding okWave curves.okCurve curves.hasLength curves.triples okNumbers counted all isNumber isLength isTarget sized inside zeros forward
 two-ok = refl
@@ -138,12 +124,21 @@ two-ends : isTime (pos 15) ≡ true
 unfolding isTime sized inside
 two-ends = refl
 
-abbrev to-15 : List ℤ
-to-15 = flat numbersOf (control 7 0 0 ∷ control 7 1 1 ∷ control 7 2 2 ∷ control 7 3 3 ∷ control 7 4 4 ∷ control 7 5 5 ∷ control 7 6 6 ∷ control 7 7 7 ∷ control 7 8 8 ∷ control 7 9 9 ∷ control 7 10 10 ∷ control 7 11 11 ∷ control 7 12 12 ∷ control 7 13 13 ∷ control 7 14 14 ∷ [])
+abbrev Seven : Track → Type 0
+Seven a = WaveLeaves a 80 7 (outcome 7 (funds 1 80 56 0)) (flat numbersOf (control 7 0 0 ∷ control 7 1 10 ∷ control 7 2 20 ∷ control 7 3 30 ∷ control 7 4 40 ∷ control 7 5 50 ∷ control 7 6 60 ∷ []))
 
-written-15 : Leaves (ended two 15) 160 15 (outcome 15 (spent 1 160 120 0)) to-15
-unfolding noteRefusal drawnAll leaves drawingsOf waveDrawing isList isTime okBudget isBytes sized inside all okEvents rowsOf takenBy windowOf keptEvents newEvents offered fresh offers points steps valueBy become total triples triplesOf expanded budgetAfter spentBy seedsAfter ruleOf eventOfOffer eventFor timeOf startOf kindOf clamped scaledFor topOf isController moved rangeIn spread curveOf writeOf freqFor optionOf newOf answered isTimebase newTrack zeros
-written-15 = rw (ended-well two 15 refl two-ok two-ends) (refl, refl)
+abbrev Fifteen : Track → Type 0
+Fifteen a = WaveLeaves a 160 15 (outcome 15 (funds 1 160 120 0)) (flat numbersOf (control 7 0 0 ∷ control 7 1 1 ∷ control 7 2 2 ∷ control 7 3 3 ∷ control 7 4 4 ∷ control 7 5 5 ∷ control 7 6 6 ∷ control 7 7 7 ∷ control 7 8 8 ∷ control 7 9 9 ∷ control 7 10 10 ∷ control 7 11 11 ∷ control 7 12 12 ∷ control 7 13 13 ∷ control 7 14 14 ∷ []))
 
-pub public-15 : Leaves (waved two 15) 160 15 (outcome 15 (spent 1 160 120 0)) to-15
-public-15 = subst (λ (a : Track). Leaves a 160 15 (outcome 15 (spent 1 160 120 0)) to-15) (sym (ended-is two 15 refl two-ok two-ends)) written-15
+written : Seven (ended three 7) × Fifteen (ended two 15)
+unfolding noteRefusal drawnAll leaves drawingsOf waveDrawing isList isTime okBudget isBytes sized inside all okEvents rowsOf takenBy windowOf keptEvents newEvents offered fresh offers points steps valueBy become total triples triplesOf expanded budgetAfter spent seedsAfter ruleOf eventOfOffer eventFor timeOf startOf kindOf clamped scaledFor topOf isController moved rangeIn spread curveOf writeOf freqFor optionOf newOf answered isTimebase newTrack zeros
+written =
+    let w = ended-well three 7 refl three-ok three-ends in
+    let x = ended-well two 15 refl two-ok two-ends in
+    (record { answer = rw w; left = rw w }, record { answer = rw x; left = rw x })
+
+pub seven : Seven (waved three 7)
+seven = subst (λ (a : Track). Seven a) (sym (ended-is three 7 refl three-ok three-ends)) (written .0)
+
+pub fifteen : Fifteen (waved two 15)
+fifteen = subst (λ (a : Track). Fifteen a) (sym (ended-is two 15 refl two-ok two-ends)) (written .1)

@@ -1,4 +1,6 @@
--- What the marked cases are asked of, each made by public calls from a new track or parameter, and what they leave.
+-- What the marked cases are asked of, each made by public calls from a new track or parameter; and for each public call, what its contract
+-- promises of an answer and of what is left.
+use mathlib.Core.Path.{_≡_}
 use mathlib.Core.List.{List, [], _∷_, _++_}
 use Prim.Native.Nat.{ℕ, _*_}
 use lib.IntN.{ℤ, pos}
@@ -12,6 +14,8 @@ use Rattle.events.specs.declared.Event.{Event}
 use Rattle.events.specs.Events.{ccEvent, pitchBendEvent}
 use Rattle.eventlist.specs.declared.Taken.{Taken}
 use Rattle.eventlist.specs.Rows.{numbersOf}
+use Rattle.cutting.specs.declared.Cut.{Cut}
+use Rattle.cutting.specs.Cuts.{cutTaken, cutLeft}
 use Rattle.params.specs.declared.ParamAnswer.{ParamAnswer}
 use Rattle.params.specs.declared.ParamValue.{ParamValue}
 use Rattle.params.specs.Param as parameter
@@ -26,8 +30,10 @@ use Rattle.state.specs.Calls.{newOf, setTimepos, setCcFreq}
 use Rattle.drawing.specs.Options.{setRandom}
 use Rattle.drawing.specs.Calls.{Draw, onTime}
 use Rattle.cycling.specs.declared.Cycled.{Cycled}
+use Rattle.cycling.specs.Calls.{cycledOf, cycledList}
 use Rattle.reserving.specs.declared.Kept.{Kept}
 use Rattle.reserving.specs.Setting.{setOnNoteWave, setOnCycle}
+use Rattle.waving.specs.Calls.{noteWritten, noteLeft}
 
 -- ---- a track of timebase 96 on channel 0; a cycle table and a list in which nothing stands
 abbrev pub new : Track
@@ -40,9 +46,8 @@ noCycles = replicate places noCycle
 abbrev pub room : ℕ → List ℤ
 room n = replicate (n * 8) (pos 0)
 
--- what is left of a budget of which nothing was used
-abbrev pub spent : ℕ → ℕ → ℕ → ℕ → Budget
-spent seed maximum used over = record { seed = seed; maximum = maximum; used = used; over = over }
+abbrev pub funds : ℕ → ℕ → ℕ → ℕ → Budget
+funds seed maximum used over = record { seed = seed; maximum = maximum; used = used; over = over }
 
 abbrev pub outcome : ℕ → Budget → Outcome
 outcome count b = record { code = 0; count = count; budget = b }
@@ -80,7 +85,13 @@ drawn n = onTime new (pos 7) (pos 0 ∷ pos 100 ∷ pos 12 ∷ []) (unspent 1 n)
 abbrev pub threeAndRoom : List ℤ
 threeAndRoom = flat numbersOf (control 7 0 0 ∷ control 7 4 33 ∷ control 7 8 66 ∷ []) ++ room 1
 
--- ---- an Expand wave for controller 7, written at every step of a note that begins at 0 and ends at n
+-- ---- what `write_cc_on_note_wave` promises of its answer r and of the list l, at a note that begins at 0, over an empty list with
+-- room for n
+pub record WaveLeaves (a : Track) (maximum n : ℕ) (r : Outcome) (l : List ℤ) : Type 0 where
+  pub answer : r ≡ noteWritten 0 a (pos 0) (unspent 1 maximum) (room n) 0
+  pub left : l ≡ noteLeft 0 a (pos 0) (unspent 1 maximum) (room n) 0
+
+-- an Expand wave for controller 7, written at every step of a note that begins at 0 and ends at n
 abbrev pub waved : List ℤ → ℕ → Track
 waved v n = setTimepos (setOnNoteWave (setCcFreq new (pos 1) .track) places noCycles (pos 7) expand v .track) (pos n) .track
 
@@ -104,6 +115,11 @@ abbrev pub table : ℤ → ℕ → List Cycle
 table n i =
     record { target = pos 11; length = pos 24; next = n; index = i; values = numbers (pos 10 ∷ pos 20 ∷ pos 30 ∷ []) } ∷ replicate 15 noCycle
 
+-- what `write_cc_on_cycle` promises of its answer r and of the list l, up to 100, over an empty list with room for five
+pub record CycleLeaves (k : Kept) (maximum : ℕ) (r : Cycled) (l : List ℤ) : Type 0 where
+  pub answer : r ≡ cycledOf (k .track) places (k .cycles) (pos 100) (unspent 1 maximum) (room 5) 0
+  pub left : l ≡ cycledList (k .track) places (k .cycles) (pos 100) (unspent 1 maximum) (room 5) 0
+
 abbrev pub cycled : ℕ → Budget → List Cycle → Cycled
 cycled count b cs = record { code = 0; count = count; budget = b; cycles = cs }
 
@@ -111,5 +127,7 @@ cycled count b cs = record { code = 0; count = count; budget = b; cycles = cs }
 abbrev pub twice : List ℤ
 twice = flat numbersOf (control 7 0 90 ∷ control 7 10 100 ∷ [])
 
-abbrev pub bothLeft : Taken
-bothLeft = record { code = 0; count = 2 }
+-- what `play_from` and the full cut promise of the list l that both are left in
+pub record CutLeaves (c : Cut) (l : List ℤ) : Type 0 where
+  pub answer : _≡_ {A = Taken} (record { code = 0; count = 2 }) (cutTaken 0 twice 2 c)
+  pub left : l ≡ cutLeft 0 twice 2 c

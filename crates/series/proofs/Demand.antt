@@ -1,7 +1,7 @@
 -- Demand 3 of the call with table, budget and list lent, and of the events in the list. The hypotheses are those of `cycling`'s theorem:
 -- D is the number of writes due up to T; the free budget holds at least 8·D bytes, and every call was accepted, none past T, at
--- least D / 10,000 (rounded up) of them exactly at T. `written` reads what is promised off the list and the budget that the last call
--- by value left; `lent-demand-3` and `lent-written` say the same of every series of lent calls. No lent call of a series with room
+-- least D / 10,000 (rounded up) of them exactly at T. `settled` reads what is promised off the list and the budget that the last call
+-- by value left; `lent-demand-3` and `lent-settled` say the same of every series of lent calls. No lent call of a series with room
 -- for D more is refused with 7 (`lent-none-full`), and where sixteen records are lent, the first call is handed what passes the tests of 1 and 4 and
 -- every time is within its range, all are accepted (`lent-all-accepted`).
 use mathlib.Core.Path.{_≡_, refl, sym, ap, subst, _∙_}
@@ -33,11 +33,11 @@ use Rattle.cycling.specs.Series as value
 use Rattle.cycling.specs.Series.{Lent, leftTo, after, seen, turnOn}
 use Rattle.cycling.proofs.Keeping.{Well, was-well, well-next}
 use Rattle.cycling.proofs.Demand.{due, Funded, Roomy, demand-3, nothing-due, bytes-risen, events-made, none-full, all-accepted}
-use Rattle.series.specs.Events.{added, timesOf, Rising, eventsAt, seedsFor, duesFor, Own, Written}
-use Rattle.series.specs.Lent.{Turn, Series, last, untils, Each, Accepted}
+use Rattle.series.specs.Events.{added, timesOf, Rising, eventsAt, seedsFor, duesFor, Own, Settled}
+use Rattle.series.specs.Calls.{Call, Series, last, untils, Each, Accepted}
 use Rattle.series.proofs.Times.{rising}
 use Rattle.series.proofs.Own.{aimed-made, own-events, own-times}
-use Rattle.series.proofs.Lent.{by-value, each-lent, stuck}
+use Rattle.series.proofs.ByValue.{by-value, each-lent, stuck}
 
 module _ (a : Track) where
   -- the list that is left is one
@@ -104,8 +104,8 @@ module _ (a : Track) (t : ℤ) where
                 (rising (optionOf (a .options) target .delay) (duesFor a t s target) (subst (λ (ws : List DueWrite). InOrder ws) (done .each (key target)) (done .order (key target))));
           }
 
-    pub written : Written a t us s end
-    written =
+    pub settled : Settled a t us s end
+    settled =
         let same = demand-3 a t us s ok none-past funded enough .0 in
         let made-all = events-made a t us s ok none-past funded enough in
         let many : length (newly a us s) ≡ due a t s = length-eventsOf (turnOn a) (made (turnOn a) us (seen a s)) (s .budget .seed) ∙ done .count in
@@ -121,7 +121,7 @@ module _ (a : Track) (t : ℤ) where
 
   -- ---- lent
 
-  module _ (cs : List Turn) (s : Lent) (calls : Series a cs s) where
+  module _ (cs : List Call) (s : Lent) (calls : Series a cs s) where
     module _ (ok : Accepted cs) (none-past : Until t (untils cs)) (funded : Funded a t s) (enough : (due a t s + (cycleWrites - 1)) / cycleWrites ≤ hits t (untils cs)) where
       pub lent-demand-3 : (seen a (last cs s) ≡ series (turnOn a) (untils cs) (seen a s)) × Done (turnOn a) t (untils cs) (seen a s)
       lent-demand-3 =
@@ -129,10 +129,10 @@ module _ (a : Track) (t : ℤ) where
           let r = demand-3 a t (untils cs) s (v .0) none-past funded enough in
           (ap (seen a) (v .1) ∙ r .0, r .1)
 
-      pub lent-written : Written a t (untils cs) s (last cs s)
-      lent-written =
+      pub lent-settled : Settled a t (untils cs) s (last cs s)
+      lent-settled =
           let v = by-value a cs s calls ok in
-          subst (λ (x : Lent). Written a t (untils cs) s x) (sym (v .1)) (written (untils cs) s (v .0) none-past funded enough)
+          subst (λ (x : Lent). Settled a t (untils cs) s x) (sym (v .1)) (settled (untils cs) s (v .0) none-past funded enough)
 
     module _ (none-past : Until t (untils cs)) (funded : Funded a t s) (roomy : Roomy a t s) where
       abbrev NotFull : ℕ → Type 0

@@ -29,11 +29,11 @@ use Rattle.state.proofs.Parts.{whole, track-play, track-params, track-layers, t
 use Rattle.cycling.specs.Series.{Lent, after, Accepted}
 use Rattle.cycling.proofs.Keeping.{Well}
 use Rattle.cycling.proofs.Demand.{due, all-accepted}
-use Rattle.series.specs.Events.{Written}
-use Rattle.series.specs.Lent.{last, untils, turnsTo}
-use Rattle.series.specs.Lent as lending
-use Rattle.series.proofs.Lent.{admitted, untils-are}
-use Rattle.series.proofs.Demand.{written, lent-all-accepted, lent-written}
+use Rattle.series.specs.Events.{Settled}
+use Rattle.series.specs.Calls.{last, untils, callsTo}
+use Rattle.series.specs.Calls as lending
+use Rattle.series.proofs.ByValue.{admitted, untils-are}
+use Rattle.series.proofs.Demand.{settled, lent-all-accepted, lent-settled}
 
 abbrev new : Track
 new = newTrack (pos 96) (pos 0)
@@ -41,14 +41,14 @@ new = newTrack (pos 96) (pos 0)
 abbrev track : Track
 track = withTables new noNotes noWaves noSines 1
 
-abbrev each : Cycle
-each = record { target = pos 11; length = pos 1; next = pos 0; index = 0; values = numbers (pos 10 ∷ pos 20 ∷ []) }
+abbrev tick : Cycle
+tick = record { target = pos 11; length = pos 1; next = pos 0; index = 0; values = numbers (pos 10 ∷ pos 20 ∷ []) }
 
 unfoldable pub room : List ℤ
 room = replicate 80008 (pos 0)
 
 abbrev lent : Lent
-lent = record { cycles = each ∷ replicate 15 noCycle; budget = record { seed = 1; maximum = 80008; used = 0; over = 0 }; list = room; count = 0 }
+lent = record { cycles = tick ∷ replicate 15 noCycle; budget = record { seed = 1; maximum = 80008; used = 0; over = 0 }; list = room; count = 0 }
 
 abbrev asks : List ℤ
 asks = pos 10000 ∷ pos 10000 ∷ []
@@ -99,8 +99,8 @@ in-time = refl
 pub accepted : Accepted track asks lent
 accepted = all-accepted track (pos 10000) asks lent well in-time none-past (omega (arith, many)) (omega (arith, many, length-rowsOf room, long))
 
-pub met : Written track (pos 10000) asks lent (after track asks lent)
-met = written track (pos 10000) asks lent accepted none-past (omega (arith, many)) (omega (arith, many, twice))
+pub met : Settled track (pos 10000) asks lent (after track asks lent)
+met = settled track (pos 10000) asks lent accepted none-past (omega (arith, many)) (omega (arith, many, twice))
 
 pub all-spent : after track asks lent .budget .used ≡ 80008
 all-spent = met .bytes ∙ omega (arith, many)
@@ -109,15 +109,15 @@ pub all-filled : after track asks lent .count ≡ 10001
 all-filled = met .count ∙ omega (arith, many)
 
 -- ---- the same, all of it lent
-abbrev pub calls : List lending.Turn
-calls = turnsTo track asks lent
+abbrev pub calls : List lending.Call
+calls = callsTo track asks lent
 
 pub lent-accepted : lending.Accepted calls
 lent-accepted =
     lent-all-accepted track (pos 10000) calls lent (admitted track asks lent) (rw (untils-are track asks lent) none-past) (omega (arith, many)) (omega (arith, many, length-rowsOf room, long))
     refl well (rw (untils-are track asks lent) in-time)
 
-pub lent-met : Written track (pos 10000) (untils calls) lent (last calls lent)
+pub lent-met : Settled track (pos 10000) (untils calls) lent (last calls lent)
 lent-met =
-    lent-written track (pos 10000) calls lent (admitted track asks lent) lent-accepted (rw (untils-are track asks lent) none-past) (omega (arith, many))
+    lent-settled track (pos 10000) calls lent (admitted track asks lent) lent-accepted (rw (untils-are track asks lent) none-past) (omega (arith, many))
     (rw (untils-are track asks lent) (omega (arith, many, twice)))

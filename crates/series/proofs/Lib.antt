@@ -1,5 +1,5 @@
 pub mod Times
 pub mod Own
-pub mod Lent
+pub mod ByValue
 pub mod Demand
 pub mod Large

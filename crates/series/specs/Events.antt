@@ -60,7 +60,7 @@ pub record Own (a : Track) (t : ℤ) (us : List ℤ) (s : Lent) (new : List Even
   pub order : Rising (timesOf (ownEvents target new))
 
 -- demand 3, read off what the last call left
-pub record Written (a : Track) (t : ℤ) (us : List ℤ) (s last : Lent) : Type 0 where
+pub record Settled (a : Track) (t : ℤ) (us : List ℤ) (s last : Lent) : Type 0 where
   -- "every due write has been made exactly once, each target's own in time order": what stood in the list stands there, and behind it
   -- one event for each of the D due writes
   pub kept : eventsOf (last .list) (last .count) ≡ eventsOf (s .list) (s .count) ++ added s last

@@ -1,2 +1,2 @@
 pub mod Events
-pub mod Lent
+pub mod Calls

@@ -13,10 +13,10 @@ use Rattle.lending.specs.declared.Answer.{Answer}
 use Rattle.lending.specs.Writing.{answerOf}
 
 -- one call: up to when, what it answered, and what the next is lent
-pub record Turn : Type 0 where
+pub record Call : Type 0 where
   pub until : ℤ
   pub answer : Answer
-  pub left : Lent
+  pub hands : Lent
 
 module _ (a : Track) where
   -- the number of records is the length of what was lent
@@ -24,24 +24,24 @@ module _ (a : Track) where
   cycledBy u s = cycledOf a (length (s .cycles)) (s .cycles) u (s .budget) (s .list) (s .count)
 
   -- the contract of the call, handed s
-  pub record Contract (s : Lent) (c : Turn) : Type 0 where
+  pub record Contract (s : Lent) (c : Call) : Type 0 where
     pub answer : c .answer ≡ answerOf (cycledBy (c .until) s)
-    pub cycles : c .left .cycles ≡ cycledBy (c .until) s .cycles
-    pub budget : c .left .budget ≡ cycledBy (c .until) s .budget
-    pub list : c .left .list ≡ cycledList a (length (s .cycles)) (s .cycles) (c .until) (s .budget) (s .list) (s .count)
-    pub count : c .left .count ≡ c .answer .count
+    pub cycles : c .hands .cycles ≡ cycledBy (c .until) s .cycles
+    pub budget : c .hands .budget ≡ cycledBy (c .until) s .budget
+    pub list : c .hands .list ≡ cycledList a (length (s .cycles)) (s .cycles) (c .until) (s .budget) (s .list) (s .count)
+    pub count : c .hands .count ≡ c .answer .count
 
-  unfoldable pub Series : List Turn → Lent → Type 0
+  unfoldable pub Series : List Call → Lent → Type 0
   Series [] s = Unit {0}
-  Series (c ∷ cs) s = Contract s c × Series cs (c .left)
+  Series (c ∷ cs) s = Contract s c × Series cs (c .hands)
 
   -- the outcome that the contract names, and those of calls up to any times
-  abbrev pub turnTo : ℤ → Lent → Turn
-  turnTo u s =
+  abbrev pub callTo : ℤ → Lent → Call
+  callTo u s =
       record {
         until = u;
         answer = answerOf (cycledBy u s);
-        left = record {
+        hands = record {
           cycles = cycledBy u s .cycles;
           budget = cycledBy u s .budget;
           list = cycledList a (length (s .cycles)) (s .cycles) u (s .budget) (s .list) (s .count);
@@ -49,22 +49,22 @@ module _ (a : Track) where
         };
       }
 
-  unfoldable pub turnsTo : List ℤ → Lent → List Turn
-  turnsTo [] s = []
-  turnsTo (u ∷ us) s = turnTo u s ∷ turnsTo us (turnTo u s .left)
+  unfoldable pub callsTo : List ℤ → Lent → List Call
+  callsTo [] s = []
+  callsTo (u ∷ us) s = callTo u s ∷ callsTo us (callTo u s .hands)
 
 -- what the last call left
-unfoldable pub last : List Turn → Lent → Lent
+unfoldable pub last : List Call → Lent → Lent
 last [] s = s
-last (c ∷ cs) s = last cs (c .left)
+last (c ∷ cs) s = last cs (c .hands)
 
-abbrev pub untils : List Turn → List ℤ
-untils cs = map (λ (c : Turn). c .until) cs
+abbrev pub untils : List Call → List ℤ
+untils cs = map (λ (c : Call). c .until) cs
 
 -- of each call's number P holds
-unfoldable pub Each : (ℕ → Type 0) → List Turn → Type 0
+unfoldable pub Each : (ℕ → Type 0) → List Call → Type 0
 Each P [] = Unit {0}
 Each P (c ∷ cs) = P (c .answer .code) × Each P cs
 
-abbrev pub Accepted : List Turn → Type 0
+abbrev pub Accepted : List Call → Type 0
 Accepted cs = Each (λ (n : ℕ). n ≡ 0) cs

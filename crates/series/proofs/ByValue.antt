@@ -27,7 +27,7 @@ use Rattle.cycling.specs.Series.{Lent, answerTo, leftTo, after}
 use Rattle.cycling.proofs.Refusing.{passed-1, refused}
 use Rattle.cycling.proofs.Calling.{unmoved, left, left-long, cycles-next}
 use Rattle.lending.specs.declared.Answer.{Answer}
-use Rattle.series.specs.Lent.{Turn, Contract, Series, turnTo, turnsTo, last, untils, Each, Accepted}
+use Rattle.series.specs.Calls.{Call, Contract, Series, callTo, callsTo, last, untils, Each, Accepted}
 
 same-lent : (s s′ : Lent) → s .cycles ≡ s′ .cycles → s .budget ≡ s′ .budget → s .list ≡ s′ .list → s .count ≡ s′ .count → s ≡ s′
 same-lent s s′ p q r t =
@@ -37,27 +37,27 @@ same-lent s s′ p q r t =
 -- ---- the contract leaves one outcome
 
 module _ (a : Track) where
-  pub untils-are : (us : List ℤ) (s : Lent) → untils (turnsTo a us s) ≡ us
-  unfolding turnsTo
+  pub untils-are : (us : List ℤ) (s : Lent) → untils (callsTo a us s) ≡ us
+  unfolding callsTo
   untils-are [] s = refl
-  untils-are (u ∷ us) s = ap (λ (vs : List ℤ). u ∷ vs) (untils-are us (turnTo a u s .left))
+  untils-are (u ∷ us) s = ap (λ (vs : List ℤ). u ∷ vs) (untils-are us (callTo a u s .hands))
 
-  pub admitted : (us : List ℤ) (s : Lent) → Series a (turnsTo a us s) s
-  unfolding turnsTo Series
+  pub admitted : (us : List ℤ) (s : Lent) → Series a (callsTo a us s) s
+  unfolding callsTo Series
   admitted [] s = tt
-  admitted (u ∷ us) s = (record { answer = refl; cycles = refl; budget = refl; list = refl; count = refl }, admitted us (turnTo a u s .left))
+  admitted (u ∷ us) s = (record { answer = refl; cycles = refl; budget = refl; list = refl; count = refl }, admitted us (callTo a u s .hands))
 
-  only-one : (c : Turn) (s : Lent) → Contract a s c → c ≡ turnTo a (c .until) s
+  only-one : (c : Call) (s : Lent) → Contract a s c → c ≡ callTo a (c .until) s
   only-one c s k =
-      ap₂ (λ (r : Answer) (x : Lent). record { until = c .until; answer = r; left = x }) (k .answer)
-      (same-lent (c .left) (turnTo a (c .until) s .left) (k .cycles) (k .budget) (k .list) (k .count ∙ ap (λ (r : Answer). r .count) (k .answer)))
+      ap₂ (λ (r : Answer) (x : Lent). record { until = c .until; answer = r; hands = x }) (k .answer)
+      (same-lent (c .hands) (callTo a (c .until) s .hands) (k .cycles) (k .budget) (k .list) (k .count ∙ ap (λ (r : Answer). r .count) (k .answer)))
 
-  pub determined : (cs : List Turn) (s : Lent) → Series a cs s → cs ≡ turnsTo a (untils cs) s
-  unfolding turnsTo Series
+  pub determined : (cs : List Call) (s : Lent) → Series a cs s → cs ≡ callsTo a (untils cs) s
+  unfolding callsTo Series
   determined [] s k = refl
   determined (c ∷ cs) s k =
       let e = only-one c s (k .0) in
-      ap₂ (λ (d : Turn) (ds : List Turn). d ∷ ds) e (determined cs (c .left) (k .1) ∙ ap (λ (d : Turn). turnsTo a (untils cs) (d .left)) e)
+      ap₂ (λ (d : Call) (ds : List Call). d ∷ ds) e (determined cs (c .hands) (k .1) ∙ ap (λ (d : Call). callsTo a (untils cs) (d .hands)) e)
 
 -- ---- the number, of any number of records
 
@@ -96,7 +96,7 @@ module _ (a : Track) (size : ℕ) (cs : List Cycle) (u : ℤ) (b : Budget) (l : 
 
 -- ---- one call
 
-module _ (a : Track) (s : Lent) (c : Turn) (k : Contract a s c) where
+module _ (a : Track) (s : Lent) (c : Call) (k : Contract a s c) where
   abbrev u : ℤ
   u = c .until
 
@@ -112,9 +112,9 @@ module _ (a : Track) (s : Lent) (c : Turn) (k : Contract a s c) where
     answer-same : c .answer .code ≡ answerTo a u s .code
     answer-same = ap (λ (x : Answer). x .code) (k .answer) ∙ ap (λ (n : ℕ). of n .code) e
 
-    left-same : c .left ≡ leftTo a u s
+    left-same : c .hands ≡ leftTo a u s
     left-same =
-        same-lent (c .left) (leftTo a u s) (k .cycles ∙ ap (λ (n : ℕ). of n .cycles) e) (k .budget ∙ ap (λ (n : ℕ). of n .budget) e)
+        same-lent (c .hands) (leftTo a u s) (k .cycles ∙ ap (λ (n : ℕ). of n .cycles) e) (k .budget ∙ ap (λ (n : ℕ). of n .budget) e)
         (k .list ∙ ap (λ (n : ℕ). cycledList a n (s .cycles) u (s .budget) (s .list) (s .count)) e)
         (k .count ∙ ap (λ (x : Answer). x .count) (k .answer) ∙ ap (λ (n : ℕ). of n .count) e)
 
@@ -125,10 +125,10 @@ module _ (a : Track) (s : Lent) (c : Turn) (k : Contract a s c) where
     answer-one : c .answer .code ≡ 1
     answer-one = ap (λ (x : Answer). x .code) (k .answer) ∙ code-is a (length (s .cycles)) (s .cycles) u (s .budget) (s .list) (s .count) ∙ not-sixteen
 
-    left-all : c .left ≡ s
+    left-all : c .hands ≡ s
     left-all =
         let r = refused a (length (s .cycles)) (s .cycles) u (s .budget) (s .list) (s .count) (λ z. omega (arith, z, not-sixteen)) in
-        same-lent (c .left) s (k .cycles ∙ sym (ap (λ (x : Cycled). x .cycles) (r .0))) (k .budget ∙ sym (ap (λ (x : Cycled). x .budget) (r .0))) (k .list ∙ sym (r .1))
+        same-lent (c .hands) s (k .cycles ∙ sym (ap (λ (x : Cycled). x .cycles) (r .0))) (k .budget ∙ sym (ap (λ (x : Cycled). x .budget) (r .0))) (k .list ∙ sym (r .1))
         (k .count ∙ ap (λ (x : Answer). x .count) (k .answer) ∙ sym (ap (λ (x : Cycled). x .count) (r .0)))
 
 -- a call by value leaves as many records as it was handed
@@ -145,29 +145,29 @@ length-kept a u s = go (eqb (answerTo a u s .code) 0) refl
 -- ---- the series
 
 module _ (a : Track) where
-  pub by-value : (cs : List Turn) (s : Lent) → Series a cs s → Accepted cs → value.Accepted a (untils cs) s × (last cs s ≡ after a (untils cs) s)
+  pub by-value : (cs : List Call) (s : Lent) → Series a cs s → Accepted cs → value.Accepted a (untils cs) s × (last cs s ≡ after a (untils cs) s)
   unfolding Series last Each value.Each after
   by-value [] s k ok = (tt, refl)
   by-value (c ∷ cs) s k ok =
       let e = sixteen a s c (k .0) (ok .0) in
       let l = left-same a s c (k .0) e in
-      let r = by-value cs (c .left) (k .1) (ok .1) in
+      let r = by-value cs (c .hands) (k .1) (ok .1) in
       ((sym (answer-same a s c (k .0) e) ∙ ok .0, subst (λ (x : Lent). value.Accepted a (untils cs) x) l (r .0)), r .1 ∙ ap (after a (untils cs)) l)
 
   module _ (P : ℕ → Type 0) where
     -- of sixteen records, the numbers of the calls by value
-    pub each-lent : (cs : List Turn) (s : Lent) → length (s .cycles) ≡ places → Series a cs s → value.Each a P (untils cs) s → Each P cs
+    pub each-lent : (cs : List Call) (s : Lent) → length (s .cycles) ≡ places → Series a cs s → value.Each a P (untils cs) s → Each P cs
     unfolding Series Each value.Each
     each-lent [] s e k p = tt
     each-lent (c ∷ cs) s e k p =
         let l = left-same a s c (k .0) e in (
           subst P (sym (answer-same a s c (k .0) e)) (p .0),
-          each-lent cs (c .left) (ap (λ (x : Lent). length (x .cycles)) l ∙ length-kept a (c .until) s ∙ e) (k .1) (subst (λ (x : Lent). value.Each a P (untils cs) x) (sym l) (p .1)),
+          each-lent cs (c .hands) (ap (λ (x : Lent). length (x .cycles)) l ∙ length-kept a (c .until) s ∙ e) (k .1) (subst (λ (x : Lent). value.Each a P (untils cs) x) (sym l) (p .1)),
         )
 
-    pub stuck : P 1 → (cs : List Turn) (s : Lent) → (length (s .cycles) ≡ places → ⊥) → Series a cs s → Each P cs
+    pub stuck : P 1 → (cs : List Call) (s : Lent) → (length (s .cycles) ≡ places → ⊥) → Series a cs s → Each P cs
     unfolding Series Each
     stuck p [] s h k = tt
     stuck p (c ∷ cs) s h k =
         let l = left-all a s c (k .0) h in
-        (subst P (sym (answer-one a s c (k .0) h)) p, stuck p cs (c .left) (λ e. h (sym (ap (λ (x : Lent). length (x .cycles)) l) ∙ e)) (k .1))
+        (subst P (sym (answer-one a s c (k .0) h)) p, stuck p cs (c .hands) (λ e. h (sym (ap (λ (x : Lent). length (x .cycles)) l) ∙ e)) (k .1))
