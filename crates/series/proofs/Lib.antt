@@ -3,3 +3,4 @@ pub mod Own
 pub mod ByValue
 pub mod Demand
 pub mod Large
+pub mod Linked
