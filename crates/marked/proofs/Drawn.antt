@@ -4,13 +4,14 @@
 -- new track has the frequency 4.
 use mathlib.Core.Path.{_≡_, refl, sym, subst}
 use mathlib.Core.Bool.{true}
-use lib.IntN.{pos, negsuc}
+use Prim.Native.Nat.{ℕ}
+use lib.IntN.{ℤ, pos, negsuc}
 use Rattle.laws.specs.Integers.{inside, sized}
 use Rattle.laws.specs.Lists.{all}
 use Rattle.numbers.specs.Ranges.{isController, isTarget, isNumber, isLength, isRandom, isTimebase, isBytes}
 use Rattle.numbers.specs.Random.{spread}
 use Rattle.budget.specs.Budgets.{okBudget}
-use Rattle.counted.specs.Curves as curves
+use Rattle.counted.specs.Curves as listed
 use Rattle.eventlist.specs.Rows.{numbersOf, rowsOf}
 use Rattle.eventlist.specs.Sound.{isList, okEvents}
 use Rattle.eventlist.specs.Windows.{takenBy}
@@ -54,23 +55,48 @@ shaky-well = whole shaky (track-play new new-well) (track-params new new-well) (
 -- ---- the writes, computed
 
 abbrev Seeds : Track → Type 0
-Seeds a = Drawn (once a (pos 7) (pos 64) 1) (outcome 1 (funds 270369 80 8 0)) (numbersOf (control 7 0 68))
+Seeds a =
+    Drawn (once a (pos 7) (pos 64) 1) (outcome 1 (funds 270369 80 8 0)) (numbersOf (control 7 0 68))
     × Drawn (once a (pos 7) (pos 64) 0) (outcome 1 (funds 0 80 8 0)) (numbersOf (control 7 0 59))
 
-on-shaky : Seeds shaky
-unfolding drawAnswer drawLeft drawRefusal inOrder isList isTarget okBudget isBytes curves.isCurve curves.hasLength curves.triples isNumber isLength sized inside all okEvents rowsOf takenBy windowOf keptEvents newEvents offered fresh offers points steps valueBy become total triples budgetAfter spent seedsAfter ruleOf eventOfOffer eventFor timeOf startOf kindOf clamped scaledFor topOf isController moved rangeIn spread curveOf writeOf freqFor bendFreq optionOf withOption newOf answered isTimebase newTrack
-on-shaky = (record { answer = rw shaky-well; left = rw shaky-well }, record { answer = rw shaky-well; left = rw shaky-well })
+-- what a bend with a value gives
+abbrev Bend : ℤ → ℤ → ℕ → Type 0
+Bend big v given = Drawn (once new (pbTarget big) v 1) (outcome 1 (funds 1 80 8 0)) (numbersOf (bend given))
+
+-- the flag that a maximum leaves
+abbrev Curve : ℕ → ℕ → Type 0
+Curve maximum flag = Drawn (drawn maximum) (outcome 3 (funds 1 maximum 24 flag)) threeAndRoom
+
+record Computed : Type 0 where
+  seeds-on : Seeds shaky
+  bend-0-middle : Bend (pos 0) (pos 64) 8192
+  bend-0-top : Bend (pos 0) (pos 255) 32639
+  bend-1-least : Bend (pos 1) (negsuc 8191) 0
+  bend-1-middle : Bend (pos 1) (pos 0) 8192
+  curve-88 : Curve 88 0
+  curve-87 : Curve 87 1
+
+computed : Computed
+unfolding drawAnswer drawLeft drawRefusal inOrder isList isTarget okBudget isBytes listed.isCurve listed.hasLength listed.triples isNumber isLength sized inside all okEvents rowsOf takenBy windowOf keptEvents newEvents offered fresh offers points steps valueBy become total triples budgetAfter spent seedsAfter ruleOf eventOfOffer eventFor timeOf startOf kindOf clamped scaledFor topOf isController moved rangeIn spread curveOf writeOf freqFor bendFreq optionOf withOption newOf answered isTimebase newTrack
+computed =
+    record {
+      seeds-on = (record { answer = rw shaky-well; left = rw shaky-well }, record { answer = rw shaky-well; left = rw shaky-well });
+      bend-0-middle = record { answer = rw new-well; left = rw new-well };
+      bend-0-top = record { answer = rw new-well; left = rw new-well };
+      bend-1-least = record { answer = rw new-well; left = rw new-well };
+      bend-1-middle = record { answer = rw new-well; left = rw new-well };
+      curve-88 = record { answer = rw new-well; left = rw new-well };
+      curve-87 = record { answer = rw new-well; left = rw new-well };
+    }
 
 pub seeds : Seeds random
-seeds = subst (λ (a : Track). Seeds a) (sym random-is) on-shaky
+seeds = subst (λ (a : Track). Seeds a) (sym random-is) (computed .seeds-on)
 
-pub bends : Drawn (once new (pbTarget (pos 0)) (pos 64) 1) (outcome 1 (funds 1 80 8 0)) (numbersOf (bend 8192))
-    × Drawn (once new (pbTarget (pos 0)) (pos 255) 1) (outcome 1 (funds 1 80 8 0)) (numbersOf (bend 32639))
-    × Drawn (once new (pbTarget (pos 1)) (negsuc 8191) 1) (outcome 1 (funds 1 80 8 0)) (numbersOf (bend 0))
-    × Drawn (once new (pbTarget (pos 1)) (pos 0) 1) (outcome 1 (funds 1 80 8 0)) (numbersOf (bend 8192))
-unfolding drawAnswer drawLeft drawRefusal inOrder isList isTarget okBudget isBytes curves.isCurve curves.hasLength curves.triples isNumber isLength sized inside all okEvents rowsOf takenBy windowOf keptEvents newEvents offered fresh offers points steps valueBy become total triples budgetAfter spent seedsAfter ruleOf eventOfOffer eventFor timeOf startOf kindOf clamped scaledFor topOf isController moved rangeIn spread curveOf writeOf freqFor bendFreq optionOf withOption newOf answered isTimebase newTrack
-bends = (record { answer = rw new-well; left = rw new-well }, record { answer = rw new-well; left = rw new-well }, record { answer = rw new-well; left = rw new-well }, record { answer = rw new-well; left = rw new-well })
+pub bend-0 : Bend (pos 0) (pos 64) 8192 × Bend (pos 0) (pos 255) 32639
+bend-0 = (computed .bend-0-middle, computed .bend-0-top)
 
-pub curves-88-87 : Drawn (drawn 88) (outcome 3 (funds 1 88 24 0)) threeAndRoom × Drawn (drawn 87) (outcome 3 (funds 1 87 24 1)) threeAndRoom
-unfolding drawAnswer drawLeft drawRefusal inOrder isList isTarget okBudget isBytes curves.isCurve curves.hasLength curves.triples isNumber isLength sized inside all okEvents rowsOf takenBy windowOf keptEvents newEvents offered fresh offers points steps valueBy become total triples budgetAfter spent seedsAfter ruleOf eventOfOffer eventFor timeOf startOf kindOf clamped scaledFor topOf isController moved rangeIn spread curveOf writeOf freqFor bendFreq optionOf withOption newOf answered isTimebase newTrack
-curves-88-87 = (record { answer = rw new-well; left = rw new-well }, record { answer = rw new-well; left = rw new-well })
+pub bend-1 : Bend (pos 1) (negsuc 8191) 0 × Bend (pos 1) (pos 0) 8192
+bend-1 = (computed .bend-1-least, computed .bend-1-middle)
+
+pub curves : Curve 88 0 × Curve 87 1
+curves = (computed .curve-88, computed .curve-87)
