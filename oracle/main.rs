@@ -8,7 +8,7 @@
 //     oracle sines SEED COUNT       document 01's sine values beside the original's
 //     oracle tape < tape            what document 01's tape program prints of a tape
 //     oracle tapes SEED COUNT > stream            tapes to compare with
-//     oracle plays < stream         what it prints of each of a stream's tapes; `oracle each PROGRAM.. < stream` runs another program on each,
+//     oracle plays < stream         what it prints of each of a stream's tapes, and of an end inside one; `oracle each PROGRAM.. < stream` runs another program on each,
 //                                   `oracle pick N < stream` writes one of them, counted from 0,
 //                                   `oracle thin N < stream` every N-th of them that is short
 
@@ -76,18 +76,20 @@ fn main() -> Result<()> {
         ["tapes", seed, count] => tapes::write(&tapes::tapes(number(seed), number(count) as usize), &mut out)?,
         ["plays"] => {
             let quarter = sine::Quarter::new();
-            for bytes in tapes::read(&mut stdin())? {
+            let (tapes, end) = tapes::read(&mut stdin())?;
+            for bytes in tapes {
                 write!(out, "{}", tape::play(&bytes, &quarter))?;
             }
+            write!(out, "{end}")?;
         }
         ["thin", step] => {
-            let tapes = tapes::read(&mut stdin())?;
+            let (tapes, _) = tapes::read(&mut stdin())?;
             let short: Vec<Vec<u8>> = tapes.into_iter().step_by(number(step) as usize).filter(|tape| tape.len() <= 512).collect();
             tapes::write(&short, &mut out)?;
         }
-        ["pick", at] => out.write_all(&tapes::read(&mut stdin())?[number(at) as usize])?,
+        ["pick", at] => out.write_all(&tapes::read(&mut stdin())?.0[number(at) as usize])?,
         ["each", ref program @ ..] if !program.is_empty() => {
-            for printed in tapes::each(program, &tapes::read(&mut stdin())?) {
+            for printed in tapes::each(program, &tapes::read(&mut stdin())?.0) {
                 out.write_all(&printed)?;
             }
         }

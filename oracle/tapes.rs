@@ -1,7 +1,7 @@
 // Tapes for the comparison: first every limit from both sides, then random ones. Of those most are good (swells, cycles, cuts, frequencies, budgets of every kind); the
 // others are a good tape cut off at each of its bytes, or one with a single fault.
 //
-// A stream of tapes is for each its length, four bytes, little end first, and its bytes.
+// A stream of tapes is for each its length, four bytes, little end first, and its bytes. It may end inside a tape or a length: then a line says so.
 
 use crate::dice::Dice;
 use crate::table::Arg;
@@ -251,17 +251,28 @@ pub fn write(tapes: &[Tape], output: &mut impl Write) -> Result<()> {
     Ok(())
 }
 
-pub fn read(input: &mut impl Read) -> Result<Vec<Tape>> {
+/// Where a stream ends inside a tape or inside a length: the line that is printed of it, after what its whole tapes print.
+fn ending(inside: &str, there: usize, long: usize) -> String {
+    format!("the stream ends inside a {inside}: {there} bytes of {long}\n")
+}
+
+/// A stream's whole tapes, and the line of its end, which is empty where it ends between two tapes.
+pub fn read(input: &mut impl Read) -> Result<(Vec<Tape>, String)> {
     let mut bytes = vec![];
     input.read_to_end(&mut bytes)?;
     let (mut rest, mut tapes) = (&bytes[..], vec![]);
-    while let Some((length, behind)) = rest.split_at_checked(4) {
+    while !rest.is_empty() {
+        let Some((length, behind)) = rest.split_at_checked(4) else {
+            return Ok((tapes, ending("length", rest.len(), 4)));
+        };
         let length = u32::from_le_bytes(length.try_into().unwrap()) as usize;
-        let (tape, next) = behind.split_at_checked(length).expect("a stream that ends inside a tape");
+        let Some((tape, next)) = behind.split_at_checked(length) else {
+            return Ok((tapes, ending("tape", behind.len(), length)));
+        };
         tapes.push(tape.to_vec());
         rest = next;
     }
-    Ok(tapes)
+    Ok((tapes, String::new()))
 }
 
 /// Runs a program once for each tape, which it is handed on standard input, two at a time, and answers what each printed.

@@ -13,6 +13,9 @@ slice-aggregate-read-full c = sym (length-take-le _ _ (search needs))
 read-full-requires : tie.Need-read-full-requires
 read-full-requires c κs = search needs
 
+least-requires : tie.Need-least-requires
+least-requires c κs = search needs
+
 same-length : tie.Need-same-length
 same-length c = search needs
 
@@ -29,6 +32,7 @@ read-front-spec =
     slice-relend-prefix-read-full
     slice-aggregate-read-full
     read-full-requires
+    least-requires
     same-length
     returns
     returns-2)

@@ -1,26 +1,27 @@
--- `skip`: the measure is what is left.
-use Prim.Native.Nat.{_≤_}
+-- `skip` ends where nothing is left, and what is done and what is left are never more than n.
+use Prim.Native.Nat.{_+_, _≤_}
+use native.Mathlib.Omega.{arith}
 use borrow.Author.Needs.{needs}
 use Rattle.tapes.proofs.skip.Statement.{statement}
 use Rattle.tapes.proofs.skip.Tie as tie
 
 abbrev Inv-loop : tie.InvT-loop
-Inv-loop n left₀ left = left ≤ n
+Inv-loop n done₀ left₀ done left = done + left ≤ n
 
 abbrev μ-loop : tie.MeasureT-loop
-μ-loop n left₀ left = left
+μ-loop n done₀ left₀ done left = left
 
 loop-holds : tie.Need-loop-holds Inv-loop μ-loop
 loop-holds c = search needs
 
-part-of-requires : tie.Need-part-of-requires Inv-loop μ-loop
-part-of-requires c κs = search needs
-
 skip-part-requires : tie.Need-skip-part-requires Inv-loop μ-loop
 skip-part-requires c κs = search needs
 
-sub-left : tie.Need-sub-left Inv-loop μ-loop
-sub-left c = search needs
+rest-of-requires : tie.Need-rest-of-requires Inv-loop μ-loop
+rest-of-requires c κs = search needs
+
+add-done : tie.Need-add-done Inv-loop μ-loop
+add-done c = omega arith
 
 loop-less : tie.Need-loop-less Inv-loop μ-loop
 loop-less c = search needs
@@ -38,9 +39,9 @@ skip-spec =
     Inv-loop
     μ-loop
     loop-holds
-    part-of-requires
     skip-part-requires
-    sub-left
+    rest-of-requires
+    add-done
     loop-less
     loop-again
     returns)
