@@ -3,7 +3,7 @@ use mathlib.Core.Path.{_≡_, refl, ap, _∙_}
 use mathlib.Core.Bool.{Bool, true, false, cond, _&&_}
 use mathlib.Core.List.{List, _++_}
 use Prim.Native.Nat.{ℕ, _+_, _/_, _≤_}
-use borrow.Author.Tests.{ne-eqb, ltb-false}
+use borrow.Author.Tests.{ne-eqb, eqb-true, ltb-false}
 use lib.Dec.{eqb, ltb}
 use lib.IntN.{ℤ}
 use lib.ListN.{length, drop}
@@ -72,12 +72,15 @@ module _ (a : Track) (size : ℕ) (cs : List Cycle) (until : ℤ) (b : Budget) (
     abbrev full : Bool
     full = ltb (length (rowsOf l)) (length events)
 
-    pub tests : Passed (isList l count && eqb size places) (isTime until && okLent a cs && okBudget b) (cond full 7 0)
+    tests : Passed (isList l count && eqb size places) (isTime until && okLent a cs && okBudget b) (cond full 7 0)
     unfolding cycleRefusal
     tests = passed (isList l count && eqb size places) (isTime until && okLent a cs && okBudget b) (cond full 7 0) e
 
     pub listed : isList l count ≡ true
     listed = left (isList l count) (eqb size places) (tests .list)
+
+    pub sixteen : size ≡ places
+    sixteen = eqb-true size places (right (isList l count) (eqb size places) (tests .list))
 
     pub allowed : (isTime until && okLent a cs && okBudget b) ≡ true
     allowed = tests .numbers

@@ -8,8 +8,7 @@ use mathlib.Core.Bool.{Bool, true, false, cond, _&&_}
 use mathlib.Core.List.{List, [], _∷_, _++_}
 use Prim.Native.Nat.{ℕ, zero, suc, _-_, _≤_, min}
 use native.Mathlib.Omega.{arith}
-use borrow.Author.Tests.{eqb-true}
-use lib.Dec.{eqb, ltb}
+use lib.Dec.{ltb}
 use lib.IntN.{ℤ, pos}
 use lib.Signed.{leZ}
 use lib.ListN.{length}
@@ -44,7 +43,7 @@ use Rattle.state.proofs.Play.{play-channel}
 use Rattle.state.proofs.Lent.{lent-track}
 use Rattle.cycling.specs.Calls.{usedOf, cycleRefusal, cycledOf, cycledList}
 use Rattle.cycling.specs.Series.{Lent, answerTo, leftTo, seen, turnOn}
-use Rattle.cycling.proofs.Refusing.{is-time, tests, allowed}
+use Rattle.cycling.proofs.Refusing.{is-time, sixteen, allowed}
 use Rattle.cycling.proofs.Calling as C
 use Rattle.cycling.proofs.Keeping.{was-well, rules, well-next}
 
@@ -141,5 +140,5 @@ module _ (a : Track) (cs : List Cycle) (until : ℤ) (b : Budget) (l : List ℤ)
 
   pub cycle-sound : (size : ℕ) → cycleRefusal a size cs until b l count ≡ 0 → CycleSound a size cs until b l count
   cycle-sound size e =
-      let n : size ≡ places = eqb-true size places (right (isList l count) (eqb size places) (tests a size cs until b l count e .list)) in
+      let n = sixteen a size cs until b l count e in
       subst (λ (m : ℕ). CycleSound a m cs until b l count) (sym n) (of-sixteen (subst (λ (m : ℕ). cycleRefusal a m cs until b l count ≡ 0) n e))

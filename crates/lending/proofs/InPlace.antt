@@ -42,7 +42,7 @@ use Rattle.state.specs.Tests.{okLent}
 use Rattle.state.proofs.Lent.{lent-counted}
 use Rattle.cycling.specs.declared.Cycled.{Cycled}
 use Rattle.cycling.specs.Calls.{roundOf, leftBy, gainsOf, inOrder, cycleRefusal, quickRefusal, cycledOf, cycledList}
-use Rattle.cycling.proofs.Refusing.{quick, refused, listed, allowed, roomy, answer, list-left, is-time, is-lent, passed-1}
+use Rattle.cycling.proofs.Refusing.{quick, refused, listed, allowed, roomy, answer, list-left, is-time, is-lent, sixteen}
 use Rattle.cycling.proofs.Calling.{front}
 use Rattle.lending.specs.declared.Going.{Going}
 use Rattle.lending.specs.declared.Job.{Job}
@@ -161,8 +161,7 @@ module _ (a : Track) (ys : List Cycle) (u : ℤ) (b : Budget) (l : List ℤ) (n 
     each = lent-counted a ys (is-lent a ys u b tests)
 
     six : length ys ≡ places
-    unfolding cycleRefusal
-    six = eqb-true (length ys) places (right (isList l n) (eqb (length ys) places) (passed-1 (isList l n && eqb (length ys) places) (isTime u && okLent a ys && okBudget b) (ltb (length rs) (length (end .events))) z))
+    six = sixteen a (length ys) ys u b l n z
 
     fit : used ≤ length ys
     fit = omega (arith, P.within used ys each, six)
