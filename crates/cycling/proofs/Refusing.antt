@@ -28,6 +28,10 @@ use Rattle.state.specs.declared.Track.{Track}
 use Rattle.state.specs.Tests.{okLent}
 use Rattle.cycling.specs.Calls.{usedOf, leftBy, inOrder, gainsOf, cycleRefusal, quickRefusal, cycledOf, cycledList}
 
+-- ---- the first of its three tests
+pub passed-1 : (p q r : Bool) → inOrder p q r ≡ 0 → p ≡ true
+passed-1 p q r e = passed p q (cond r 7 0) e .list
+
 -- the tests behind 4
 module _ (a : Track) (cs : List Cycle) (until : ℤ) (b : Budget) (e : (isTime until && okLent a cs && okBudget b) ≡ true) where
   pub is-time : isTime until ≡ true

@@ -14,7 +14,7 @@ use lib.ListN.{length, set, getD, take, drop, length-append, length-drop}
 use lib.Seq.{drop-cons, take-suc-set, length-take-le}
 use Rattle.laws.specs.Lists.{counted, putFirst}
 use Rattle.laws.specs.Rows.{flat}
-use Rattle.laws.proofs.Ranges.{left, right}
+use Rattle.laws.proofs.Ranges.{left}
 use Rattle.laws.proofs.Rows.{length-flat}
 use Rattle.laws.proofs.Firsts.{length-putFirst}
 use Rattle.numbers.specs.Limits.{places}
