@@ -2,13 +2,15 @@
 --     folds-kind     an event that is folded has the kind
 --     folds-alone    so it is folded as no other kind,
 --     control-kept, program-kept, bend-kept   and is not kept
-use mathlib.Core.Path.{_≡_}
-use mathlib.Core.Bool.{true, false}
-use lib.IntN.{ℤ}
+--     folds-early, folds-late   by the time alone: before the cut the kind decides, from it on nothing is folded
+use mathlib.Core.Path.{_≡_, refl}
+use mathlib.Core.Bool.{true, false, true≢false}
+use borrow.Author.Tests.{lt-ltb, leb-false}
+use lib.IntN.{ℤ, pos, negsuc}
 use lib.Signed.{ltZ, leZ}
 use Rattle.laws.specs.Integers.{eqZ}
 use Rattle.laws.proofs.Bits.{eqZ-true}
-use Rattle.laws.proofs.Bools.{and-off}
+use Rattle.laws.proofs.Bools.{and-on, and-off}
 use Rattle.laws.proofs.Order.{lt-not-le}
 use Rattle.laws.proofs.Ranges.{left, right}
 use Rattle.events.specs.declared.Event.{Event}
@@ -28,6 +30,22 @@ module _ (k at : ℤ) (e : Event) (f : folds k at e ≡ true) where
   pub folds-alone : (k′ : ℤ) → eqZ k k′ ≡ false → folds k′ at e ≡ false
   unfolding folds
   folds-alone k′ n = rw (folds-kind, n)
+
+module _ (k at : ℤ) (e : Event) where
+  pub folds-early : ltZ (e .time) at ≡ true → folds k at e ≡ eqZ (e .kind) k
+  unfolding folds
+  folds-early h = rw h (and-on (eqZ (e .kind) k))
+
+  pub folds-late : ltZ (e .time) at ≡ false → folds k at e ≡ false
+  unfolding folds
+  folds-late h = rw h (and-off (eqZ (e .kind) k))
+
+-- not from the cut on is before it
+pub before-it : (at time : ℤ) → leZ at time ≡ false → ltZ time at ≡ true
+before-it (pos a) (pos b) e = lt-ltb b a (leb-false a b e)
+before-it (pos a) (negsuc b) e = refl
+before-it (negsuc a) (pos b) e = absurd (true≢false e)
+before-it (negsuc a) (negsuc b) e = lt-ltb a b (leb-false b a e)
 
 module _ (c : Cut) (e : Event) where
   pub control-kept : folds controlChange (c .at) e ≡ true → keeps c e ≡ false

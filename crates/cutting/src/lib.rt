@@ -11,7 +11,7 @@ ghost use Rattle.numbers.specs.Ranges.{isTime, isEventTime};
 ghost use Rattle.events.specs.Events.{zeroEvent, okNumbered};
 ghost use Rattle.eventlist.specs.Rows.{rowsOf, eventsOf};
 ghost use Rattle.cutting.specs.Value.{defaultOf, speaks, ccValue, ccAnswer};
-ghost use Rattle.cutting.specs.Cuts.{unset, withTime, folds, controlAt, folded, keeps, shifted, keptOf, fitsCut, cutTaken, cutLeft, plain, whole};
+ghost use Rattle.cutting.specs.Cuts.{unset, withTime, controlAt, folded, keeps, shifted, keptOf, fitsCut, cutTaken, cutLeft, plain, whole};
 ghost use Rattle.cutting.specs.Passes.{sound, Holds, lastsOf, noted, valued, partsOf, controlsIn, programIn, bendIn, withMore, turned};
 use eventlist::Taken;
 use eventlist::WIDTH;
@@ -128,13 +128,6 @@ pub struct Cut {
     pub full: bool,
 }
 
-// Whether the event is of the kind and stands before the cut.
-fn is_folded(e: Event, kind: i64, c: Cut) -> bool
-    ensures { λ r. ⌜ r ≡ folds kind (c .at) e ⌝ }
-{
-    (e.kind == kind) & (e.time < c.at)
-}
-
 // Whether the cut keeps the event.
 fn is_kept(e: Event, c: Cut) -> bool
     ensures { λ r. ⌜ r ≡ keeps c e ⌝ }
@@ -211,32 +204,32 @@ pub struct Last {
 fn note(last: Last, e: Event, c: Cut) -> Last
     ensures { λ r. ⌜ r ≡ noted (c .at) last e ⌝ }
 {
+    if c.at <= e.time {
+        return last;
+    }
     let bend = last.bend;
-    if is_folded(e, VOICE, c) {
-        return Last {
+    let kind = e.kind;
+    match kind {
+        VOICE => Last {
             program: e.v1,
             channel: e.channel,
             bent: last.bent,
             bend: bend,
-        };
-    }
-    if is_folded(e, CONTROL_CHANGE, c) {
-        return Last {
+        },
+        CONTROL_CHANGE => Last {
             program: last.program,
             channel: e.channel,
             bent: last.bent,
             bend: bend,
-        };
-    }
-    if is_folded(e, PITCH_BEND, c) {
-        return Last {
+        },
+        PITCH_BEND => Last {
             program: last.program,
             channel: last.channel,
             bent: true,
             bend: e,
-        };
+        },
+        _ => last,
     }
-    last
 }
 
 // Stores the value of a controller's event before the cut.
@@ -244,10 +237,16 @@ fn note_value(values: &mut [i64; 128], e: Event, c: Cut)
     requires { ⌜ okNumbered e ≡ true ⌝ }
     ensures { λ r. ⌜ now (values .exit) ≡ valued (c .at) (now (values .entry)) e ⌝ }
 {
-    if is_folded(e, CONTROL_CHANGE, c) {
-        let k = e.v1 as usize;
-        let v = e.v2;
-        values[k] = v;
+    if e.time < c.at {
+        let kind = e.kind;
+        match kind {
+            CONTROL_CHANGE => {
+                let k = e.v1 as usize;
+                let v = e.v2;
+                values[k] = v;
+            }
+            _ => {}
+        }
     }
 }
 

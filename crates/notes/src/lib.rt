@@ -23,7 +23,11 @@ use numbers::is_event_time;
 fn is_note(e: Event) -> bool
     ensures { λ r. ⌜ r ≡ isNote e ⌝ }
 {
-    e.kind == NOTE_ON
+    let kind = e.kind;
+    match kind {
+        NOTE_ON => true,
+        _ => false,
+    }
 }
 
 // The end of a note.

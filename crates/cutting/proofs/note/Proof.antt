@@ -1,74 +1,99 @@
--- `note` meets its contract: an event is folded as one kind at most (`folds-alone`).
-use borrow.Author.Needs.{needs}
-use mathlib.Core.Path.{refl, sym, _∙_}
+-- `note` meets its contract: from the cut on nothing is folded, and before it an event is folded as its kind alone (`folds-alone`).
+use mathlib.Core.Path.{_≡_, refl, sym, ap, ap₂, _∙_}
+use mathlib.Core.Bool.{true}
+use lib.Dec.{lit<}
+use lib.IntN.{ℤ}
+use lib.Signed.{ltZ, leZ}
 use mir.Syntax.{w64}
+use mir.Val.{SFits, toZ, ofZ}
+use Rattle.laws.specs.Integers.{eqZ}
+use Rattle.laws.proofs.Bits.{bits-eq, bits-differ}
 use Rattle.laws.proofs.Fitting.{back}
+use Rattle.laws.proofs.Order.{le-not-lt}
+use Rattle.events.specs.declared.Event.{Event}
 use Rattle.events.specs.Kinds.{controlChange, pitchBend, voice}
+use Rattle.cutting.specs.Cuts.{folds}
 use Rattle.cutting.specs.Passes.{noted}
-use Rattle.cutting.proofs.Folding.{folds-alone}
+use Rattle.cutting.proofs.Folding.{folds-alone, folds-early, folds-late, before-it}
 use Rattle.cutting.proofs.note.Statement.{statement}
 use Rattle.cutting.proofs.note.Tie as tie
 
-is-folded-requires : tie.Need-is-folded-requires
-is-folded-requires c κs = search needs
+control : SFits w64 controlChange
+control = record { sfits = lit< tt }
+
+bend : SFits w64 pitchBend
+bend = record { sfits = lit< tt }
+
+program : SFits w64 voice
+program = record { sfits = lit< tt }
+
+-- the test of the time, of the numbers themselves
+module _ (b : tie.After-struct-told2) where
+  abbrev s : tie.Start
+  s = b .before .before .before .before
+
+  read : leZ (toZ w64 (ofZ w64 (s .args .c .at))) (toZ w64 (ofZ w64 (s .args .e .time))) ≡ leZ (s .args .c .at) (s .args .e .time)
+  read = ap₂ leZ (back w64 (s .args .c .at) (b .before .before .struct-told .given .0 .1)) (back w64 (s .args .e .time) (b .struct-told2 .given .1 .0 .1))
+
+-- before the cut: the event's kind decides
+module _ (t : tie.After-struct-told3) where
+  abbrev start : tie.Start
+  start = s (t .before .before .before)
+
+  abbrev at : ℤ
+  at = start .args .c .at
+
+  abbrev e : Event
+  e = start .args .e
+
+  kind-fits : SFits w64 (e .kind)
+  kind-fits = record { sfits = t .struct-told3 .given .0 .1 }
+
+  early : ltZ (e .time) at ≡ true
+  early = before-it at (e .time) (sym (read (t .before .before .before)) ∙ t .before .before .if1 .left)
+
+  is : (k : ℤ) → e .kind ≡ k → folds k at e ≡ eqZ k k
+  is k q = folds-early k at e early ∙ ap (λ (z : ℤ). eqZ z k) q
 
 returns : tie.Need-returns
 unfolding noted
 returns c =
-    let t = c .before .before in
-    let s = t .before .before in
-    let e = s .args .e in
-    let f = sym (t .is-folded .ensures) ∙ c .before .if1 .taken in
-    rw (f, folds-alone voice (s .args .c .at) e f pitchBend refl, back w64 (e .v1) (c .struct-told .given .1 .1 .1 .0 .1), back w64 (e .channel) (c .struct-told .given .1 .1 .0 .1))
-
-is-folded-requires-2 : tie.Need-is-folded-requires-2
-is-folded-requires-2 c κs = search needs
+    let a = s (c .before) .args in
+    let late = le-not-lt (a .c .at) (a .e .time) (sym (read (c .before)) ∙ c .if1 .taken) in
+    rw (folds-late voice (a .c .at) (a .e) late, folds-late controlChange (a .c .at) (a .e) late, folds-late pitchBend (a .c .at) (a .e) late)
 
 returns-2 : tie.Need-returns-2
 unfolding noted
 returns-2 c =
-    let u = c .before .before .before in
-    let t = u .before .before in
-    let s = t .before .before in
-    let e = s .args .e in
-    let n = sym (t .is-folded .ensures) ∙ u .before .if1 .left in
-    let f = sym (u .is-folded2 .ensures) ∙ c .before .before .if2 .taken in
-    rw (n, f, folds-alone controlChange (s .args .c .at) e f pitchBend refl, back w64 (s .args .last .program) (c .before .struct-told2 .given .0 .1), back w64 (e .channel) (c .struct-told3 .given .1 .1 .0 .1))
-
-is-folded-requires-3 : tie.Need-is-folded-requires-3
-is-folded-requires-3 c κs = search needs
+    let t = c .before .before in
+    let f = is t voice (bits-eq (kind-fits t) program (c .before .match .keys1)) in
+    rw (f, folds-alone voice (at t) (e t) f pitchBend refl, back w64 (e t .v1) (c .struct-told4 .given .1 .1 .1 .0 .1), back w64 (e t .channel) (c .struct-told4 .given .1 .1 .0 .1))
 
 returns-3 : tie.Need-returns-3
 unfolding noted
 returns-3 c =
-    let v = c .before .before in
-    let u = v .before .before in
-    let t = u .before .before in
-    let s = t .before .before in
-    let n = sym (t .is-folded .ensures) ∙ u .before .if1 .left in
-    let m = sym (u .is-folded2 .ensures) ∙ v .before .if2 .left in
-    let f = sym (v .is-folded3 .ensures) ∙ c .before .if3 .taken in
-    rw (n, m, f, back w64 (s .args .last .program) (c .struct-told4 .given .0 .1), back w64 (s .args .last .channel) (c .struct-told4 .given .1 .0 .1))
+    let m = c .before .before in
+    let t = m .before in
+    let f = is t controlChange (bits-eq (kind-fits t) control (m .match .keys2)) in
+    rw (folds-alone controlChange (at t) (e t) f voice refl, f, folds-alone controlChange (at t) (e t) f pitchBend refl, back w64 (start t .args .last .program) (c .before .struct-told5 .given .0 .1), back w64 (e t .channel) (c .struct-told6 .given .1 .1 .0 .1))
 
 returns-4 : tie.Need-returns-4
 unfolding noted
 returns-4 c =
-    let v = c .before in
-    let u = v .before .before in
-    let t = u .before .before in
-    let n = sym (t .is-folded .ensures) ∙ u .before .if1 .left in
-    let m = sym (u .is-folded2 .ensures) ∙ v .before .if2 .left in
-    let f = sym (v .is-folded3 .ensures) ∙ c .if3 .left in
-    rw (n, m, f)
+    let t = c .before .before in
+    let f = is t pitchBend (bits-eq (kind-fits t) bend (c .before .match .keys3)) in
+    rw (folds-alone pitchBend (at t) (e t) f voice refl, folds-alone pitchBend (at t) (e t) f controlChange refl, f, back w64 (start t .args .last .program) (c .struct-told7 .given .0 .1), back w64 (start t .args .last .channel) (c .struct-told7 .given .1 .0 .1))
+
+returns-5 : tie.Need-returns-5
+unfolding noted
+returns-5 c =
+    let t = c .before in
+    let r = c .match .rest in
+    rw (
+      folds-early voice (at t) (e t) (early t) ∙ bits-differ (kind-fits t) program (r .0 .0 .1),
+      folds-early controlChange (at t) (e t) (early t) ∙ bits-differ (kind-fits t) control (r .0 .1),
+      folds-early pitchBend (at t) (e t) (early t) ∙ bits-differ (kind-fits t) bend (r .1),
+    )
 
 pub note-spec : {M : Type 1} → statement M
-note-spec =
-    tie.close
-    (tie.spec
-    is-folded-requires
-    returns
-    is-folded-requires-2
-    returns-2
-    is-folded-requires-3
-    returns-3
-    returns-4)
+note-spec = tie.close (tie.spec returns returns-2 returns-3 returns-4 returns-5)
