@@ -1,7 +1,7 @@
 -- 01, "Numbers a caller may hand in" and "Stored events": one test for each range, both ends included.
-use mathlib.Core.Bool.{Bool}
+use mathlib.Core.Bool.{Bool, _||_}
 use Prim.Native.Nat.{ℕ, _-_, _^_}
-use lib.Dec.{leb}
+use lib.Dec.{leb, eqb}
 use lib.IntN.{ℤ, pos, negsuc}
 use lib.Signed.{leZ}
 use Rattle.laws.specs.Integers.{inside, sized}
@@ -30,6 +30,10 @@ isLength z = sized (2 ^ 20) z
 -- random: at most 2^20
 unfoldable pub isRandom : ℤ → Bool
 isRandom z = leZ z (pos (2 ^ 20))
+
+-- "a maximum may be absent; so may a range": what is absent, its flag 0, is not asked
+abbrev pub absentOr : ℕ → Bool → Bool
+absentOr flag ok = eqb flag 0 || ok
 
 -- a sine's low and high: ±16,383
 unfoldable pub isSineEnd : ℤ → Bool

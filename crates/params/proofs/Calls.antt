@@ -13,7 +13,7 @@ use lib.IntN.{ℤ, pos}
 use lib.ListN.{length}
 use Rattle.laws.proofs.Ranges.{left, right}
 use Rattle.numbers.specs.Limits.{listLimit}
-use Rattle.numbers.specs.Ranges.{isNumber, isLength, isRandom}
+use Rattle.numbers.specs.Ranges.{isNumber, isLength, isRandom, absentOr}
 use Rattle.reserved.specs.declared.Taken.{Taken}
 use Rattle.reserved.specs.Reserve.{okReserve}
 use Rattle.reserved.specs.Setting.{demand, listDemand}
@@ -79,5 +79,5 @@ pub limits-repeat : (a : NoteParam) → okLimits a ≡ true → isFlag (a .repea
 unfolding okLimits
 limits-repeat a e =
     right
-    (isRandom (a .random) && isFlag (a .ranged) && isNumber (a .low) && isNumber (a .high) && isFlag (a .maxed) && isNumber (a .max))
+    (isRandom (a .random) && isFlag (a .ranged) && absentOr (a .ranged) (isNumber (a .low) && isNumber (a .high)) && isFlag (a .maxed) && absentOr (a .maxed) (isNumber (a .max)))
     (isFlag (a .repeat)) e

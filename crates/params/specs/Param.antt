@@ -5,7 +5,7 @@ use lib.Dec.{eqb, leb}
 use lib.IntN.{ℤ, pos}
 use lib.Signed.{ltZ}
 use Rattle.laws.specs.Integers.{rangeOf}
-use Rattle.numbers.specs.Ranges.{isNumber, isLength, isRandom}
+use Rattle.numbers.specs.Ranges.{isNumber, isLength, isRandom, absentOr}
 use Rattle.reserved.specs.declared.Reserve.{Reserve}
 use Rattle.reserved.specs.Reserve.{okReserve, idle}
 use Rattle.params.specs.declared.NoteParam.{NoteParam}
@@ -46,8 +46,8 @@ isFlag n = leb n 1
 
 unfoldable pub okLimits : NoteParam → Bool
 okLimits a =
-    isRandom (a .random) && isFlag (a .ranged) && isNumber (a .low) && isNumber (a .high) && isFlag (a .maxed) && isNumber (a .max)
-    && isFlag (a .repeat)
+    isRandom (a .random) && isFlag (a .ranged) && absentOr (a .ranged) (isNumber (a .low) && isNumber (a .high)) && isFlag (a .maxed)
+    && absentOr (a .maxed) (isNumber (a .max)) && isFlag (a .repeat)
 
 unfoldable pub okParam : NoteParam → Bool
 okParam a = okReserve (a .reserve) && isLength (a .delay) && okLimits a

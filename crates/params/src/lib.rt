@@ -71,6 +71,7 @@ pub enum Max {
     Most(i32),
 }
 
+// Whether the numbers of a parameter's options are in their ranges; what is absent is not asked.
 fn limits_ok(param: NoteParam) -> bool
     ensures { λ r. ⌜ r ≡ okLimits param ⌝ }
 {
@@ -78,10 +79,12 @@ fn limits_ok(param: NoteParam) -> bool
     let b = param.ranged <= 1;
     let c = is_number(param.low);
     let d = is_number(param.high);
+    let range = (param.ranged == 0) | (c & d);
     let e = param.maxed <= 1;
     let f = is_number(param.max);
+    let most = (param.maxed == 0) | f;
     let g = param.repeat <= 1;
-    a & b & c & d & e & f & g
+    a & b & range & e & most & g
 }
 
 // Whether every number of a parameter is in its range.

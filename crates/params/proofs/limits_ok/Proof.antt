@@ -23,8 +23,8 @@ is-number-requires-3 c κs = search needs
 returns : tie.Need-returns
 unfolding okLimits
 returns c =
-    let z = c .before in
-    let y = z .before .before .before in
+    let z = c .before .before in
+    let y = z .before .before .before .before in
     let x = y .before .before in
     let w = x .before .before .before in
     let a = w .before .before .args .param in
