@@ -157,6 +157,12 @@ typedef struct {
     uint32_t over;
 } dollavir_budget;
 
+/* What `Budget::new` answers: 0 and the budget, or the refusal's number and a budget of zeros. */
+typedef struct {
+    uint32_t code;
+    dollavir_budget budget;
+} dollavir_budget_answer;
+
 /* A target's cycle: its values in turn, the one at `index` next, at the time `next` and at every `length` from
    there. */
 typedef struct {
@@ -166,6 +172,25 @@ typedef struct {
     size_t index;
     dollavir_numbers values;
 } dollavir_cycle;
+
+/* What `OnNoteSine::new` answers: 0 and the sine, or the refusal's number and a sine of zeros. */
+typedef struct {
+    uint32_t code;
+    dollavir_on_note_sine sine;
+} dollavir_sine_answer;
+
+/* A value for every `length` steps from `start` on, round and round. */
+typedef struct {
+    int64_t start;
+    int32_t length;
+    dollavir_numbers values;
+} dollavir_on_cycle_time;
+
+/* What `OnCycleTime::new` answers: 0 and the cycle, or the refusal's number and a cycle of zeros. */
+typedef struct {
+    uint32_t code;
+    dollavir_on_cycle_time cycle;
+} dollavir_cycle_time_answer;
 
 typedef struct {
     int64_t kind;
@@ -183,13 +208,6 @@ typedef struct {
     uint32_t code;
     dollavir_event event;
 } dollavir_made;
-
-/* A value for every `length` steps from `start` on, round and round. */
-typedef struct {
-    int64_t start;
-    int32_t length;
-    dollavir_numbers values;
-} dollavir_on_cycle_time;
 
 #if defined(__STDC_VERSION__) && __STDC_VERSION__ >= 201112L
 _Static_assert(sizeof(size_t) == 8, "size_t");
@@ -282,12 +300,25 @@ _Static_assert(offsetof(dollavir_budget, seed) == 0, "dollavir_budget.seed");
 _Static_assert(offsetof(dollavir_budget, maximum) == 4, "dollavir_budget.maximum");
 _Static_assert(offsetof(dollavir_budget, used) == 8, "dollavir_budget.used");
 _Static_assert(offsetof(dollavir_budget, over) == 12, "dollavir_budget.over");
+_Static_assert(sizeof(dollavir_budget_answer) == 20 && _Alignof(dollavir_budget_answer) == 4, "dollavir_budget_answer");
+_Static_assert(offsetof(dollavir_budget_answer, code) == 0, "dollavir_budget_answer.code");
+_Static_assert(offsetof(dollavir_budget_answer, budget) == 4, "dollavir_budget_answer.budget");
 _Static_assert(sizeof(dollavir_cycle) == 416 && _Alignof(dollavir_cycle) == 8, "dollavir_cycle");
 _Static_assert(offsetof(dollavir_cycle, target) == 0, "dollavir_cycle.target");
 _Static_assert(offsetof(dollavir_cycle, length) == 4, "dollavir_cycle.length");
 _Static_assert(offsetof(dollavir_cycle, next) == 8, "dollavir_cycle.next");
 _Static_assert(offsetof(dollavir_cycle, index) == 16, "dollavir_cycle.index");
 _Static_assert(offsetof(dollavir_cycle, values) == 24, "dollavir_cycle.values");
+_Static_assert(sizeof(dollavir_sine_answer) == 28 && _Alignof(dollavir_sine_answer) == 4, "dollavir_sine_answer");
+_Static_assert(offsetof(dollavir_sine_answer, code) == 0, "dollavir_sine_answer.code");
+_Static_assert(offsetof(dollavir_sine_answer, sine) == 4, "dollavir_sine_answer.sine");
+_Static_assert(sizeof(dollavir_on_cycle_time) == 408 && _Alignof(dollavir_on_cycle_time) == 8, "dollavir_on_cycle_time");
+_Static_assert(offsetof(dollavir_on_cycle_time, start) == 0, "dollavir_on_cycle_time.start");
+_Static_assert(offsetof(dollavir_on_cycle_time, length) == 8, "dollavir_on_cycle_time.length");
+_Static_assert(offsetof(dollavir_on_cycle_time, values) == 16, "dollavir_on_cycle_time.values");
+_Static_assert(sizeof(dollavir_cycle_time_answer) == 416 && _Alignof(dollavir_cycle_time_answer) == 8, "dollavir_cycle_time_answer");
+_Static_assert(offsetof(dollavir_cycle_time_answer, code) == 0, "dollavir_cycle_time_answer.code");
+_Static_assert(offsetof(dollavir_cycle_time_answer, cycle) == 8, "dollavir_cycle_time_answer.cycle");
 _Static_assert(sizeof(dollavir_event) == 64 && _Alignof(dollavir_event) == 8, "dollavir_event");
 _Static_assert(offsetof(dollavir_event, kind) == 0, "dollavir_event.kind");
 _Static_assert(offsetof(dollavir_event, time) == 8, "dollavir_event.time");
@@ -300,23 +331,35 @@ _Static_assert(offsetof(dollavir_event, len) == 56, "dollavir_event.len");
 _Static_assert(sizeof(dollavir_made) == 72 && _Alignof(dollavir_made) == 8, "dollavir_made");
 _Static_assert(offsetof(dollavir_made, code) == 0, "dollavir_made.code");
 _Static_assert(offsetof(dollavir_made, event) == 8, "dollavir_made.event");
-_Static_assert(sizeof(dollavir_on_cycle_time) == 408 && _Alignof(dollavir_on_cycle_time) == 8, "dollavir_on_cycle_time");
-_Static_assert(offsetof(dollavir_on_cycle_time, start) == 0, "dollavir_on_cycle_time.start");
-_Static_assert(offsetof(dollavir_on_cycle_time, length) == 8, "dollavir_on_cycle_time.length");
-_Static_assert(offsetof(dollavir_on_cycle_time, values) == 16, "dollavir_on_cycle_time.values");
 #endif
 
-/* ---- a new track, a budget, an empty cycle record ---- */
+/* ---- new records: a track, a budget, an unused cycle, an option, a sine, a cycle over time ---- */
 
 /* A track at time 0 with nothing set; the channel is clamped to 0..15. Refuses 4, and then hands back a track of
    timebase 0, which no call takes. */
 dollavir_track_answer dollavir_track_new(int32_t timebase, int32_t channel);
 
-/* Nothing used yet, the flag clear. */
-dollavir_budget dollavir_budget_new(uint32_t seed, uint32_t maximum);
+/* Nothing used yet, the flag clear. Refuses 4, and then hands back a budget of zeros. */
+dollavir_budget_answer dollavir_budget_new(uint32_t seed, uint32_t maximum);
 
 /* What an unused place of a table of cycles holds. */
 dollavir_cycle dollavir_cycle_none(void);
+
+/* No delay, no random, no range, no repeat. */
+dollavir_write_option dollavir_write_option_new(void);
+
+/* A sine for a target's notes. Refuses 2, 4, and then hands back a sine of zeros. */
+dollavir_sine_answer dollavir_on_note_sine_new(int32_t target, uint32_t shape, int32_t low, int32_t high,
+    int32_t len, int32_t times);
+
+/* A cycle over time of its own. Refuses 3, 4, and then hands back a cycle of zeros. */
+dollavir_cycle_time_answer dollavir_cycle_time_new(int64_t start, int32_t len, const int32_t *values,
+    size_t values_length);
+
+/* ---- a number in a range ---- */
+
+/* Below `low` gives `low`, otherwise above `high` gives `high`, whichever of the two is the greater. */
+int64_t dollavir_value_range(int64_t low, int64_t v, int64_t high);
 
 /* ---- the track's own numbers ---- */
 

@@ -176,6 +176,14 @@ pub struct Budget {
     pub over: u32,
 }
 
+// What `Budget::new` answers: 0 and the budget, or the refusal's number and a budget of zeros.
+#[repr(C)]
+#[derive(Clone, Copy, Debug, PartialEq, Eq)]
+pub struct BudgetAnswer {
+    pub code: u32,
+    pub budget: Budget,
+}
+
 // A target's cycle: its values in turn, the one at `index` next, at the time `next` and at every `length` from
 // there.
 #[repr(C)]
@@ -186,6 +194,31 @@ pub struct Cycle {
     pub next: i64,
     pub index: usize,
     pub values: Numbers,
+}
+
+// What `OnNoteSine::new` answers: 0 and the sine, or the refusal's number and a sine of zeros.
+#[repr(C)]
+#[derive(Clone, Copy, Debug, PartialEq, Eq)]
+pub struct SineAnswer {
+    pub code: u32,
+    pub sine: OnNoteSine,
+}
+
+// A value for every `length` steps from `start` on, round and round.
+#[repr(C)]
+#[derive(Clone, Copy, Debug, PartialEq, Eq)]
+pub struct OnCycleTime {
+    pub start: i64,
+    pub length: i32,
+    pub values: Numbers,
+}
+
+// What `OnCycleTime::new` answers: 0 and the cycle, or the refusal's number and a cycle of zeros.
+#[repr(C)]
+#[derive(Clone, Copy, Debug, PartialEq, Eq)]
+pub struct CycleTimeAnswer {
+    pub code: u32,
+    pub cycle: OnCycleTime,
 }
 
 #[repr(C)]
@@ -207,15 +240,6 @@ pub struct Event {
 pub struct Made {
     pub code: u32,
     pub event: Event,
-}
-
-// A value for every `length` steps from `start` on, round and round.
-#[repr(C)]
-#[derive(Clone, Copy, Debug, PartialEq, Eq)]
-pub struct OnCycleTime {
-    pub start: i64,
-    pub length: i32,
-    pub values: Numbers,
 }
 
 const _: () = assert!(core::mem::size_of::<usize>() == 8);
@@ -308,12 +332,25 @@ const _: () = assert!(core::mem::offset_of!(Budget, seed) == 0);
 const _: () = assert!(core::mem::offset_of!(Budget, maximum) == 4);
 const _: () = assert!(core::mem::offset_of!(Budget, used) == 8);
 const _: () = assert!(core::mem::offset_of!(Budget, over) == 12);
+const _: () = assert!(core::mem::size_of::<BudgetAnswer>() == 20 && core::mem::align_of::<BudgetAnswer>() == 4);
+const _: () = assert!(core::mem::offset_of!(BudgetAnswer, code) == 0);
+const _: () = assert!(core::mem::offset_of!(BudgetAnswer, budget) == 4);
 const _: () = assert!(core::mem::size_of::<Cycle>() == 416 && core::mem::align_of::<Cycle>() == 8);
 const _: () = assert!(core::mem::offset_of!(Cycle, target) == 0);
 const _: () = assert!(core::mem::offset_of!(Cycle, length) == 4);
 const _: () = assert!(core::mem::offset_of!(Cycle, next) == 8);
 const _: () = assert!(core::mem::offset_of!(Cycle, index) == 16);
 const _: () = assert!(core::mem::offset_of!(Cycle, values) == 24);
+const _: () = assert!(core::mem::size_of::<SineAnswer>() == 28 && core::mem::align_of::<SineAnswer>() == 4);
+const _: () = assert!(core::mem::offset_of!(SineAnswer, code) == 0);
+const _: () = assert!(core::mem::offset_of!(SineAnswer, sine) == 4);
+const _: () = assert!(core::mem::size_of::<OnCycleTime>() == 408 && core::mem::align_of::<OnCycleTime>() == 8);
+const _: () = assert!(core::mem::offset_of!(OnCycleTime, start) == 0);
+const _: () = assert!(core::mem::offset_of!(OnCycleTime, length) == 8);
+const _: () = assert!(core::mem::offset_of!(OnCycleTime, values) == 16);
+const _: () = assert!(core::mem::size_of::<CycleTimeAnswer>() == 416 && core::mem::align_of::<CycleTimeAnswer>() == 8);
+const _: () = assert!(core::mem::offset_of!(CycleTimeAnswer, code) == 0);
+const _: () = assert!(core::mem::offset_of!(CycleTimeAnswer, cycle) == 8);
 const _: () = assert!(core::mem::size_of::<Event>() == 64 && core::mem::align_of::<Event>() == 8);
 const _: () = assert!(core::mem::offset_of!(Event, kind) == 0);
 const _: () = assert!(core::mem::offset_of!(Event, time) == 8);
@@ -326,23 +363,33 @@ const _: () = assert!(core::mem::offset_of!(Event, len) == 56);
 const _: () = assert!(core::mem::size_of::<Made>() == 72 && core::mem::align_of::<Made>() == 8);
 const _: () = assert!(core::mem::offset_of!(Made, code) == 0);
 const _: () = assert!(core::mem::offset_of!(Made, event) == 8);
-const _: () = assert!(core::mem::size_of::<OnCycleTime>() == 408 && core::mem::align_of::<OnCycleTime>() == 8);
-const _: () = assert!(core::mem::offset_of!(OnCycleTime, start) == 0);
-const _: () = assert!(core::mem::offset_of!(OnCycleTime, length) == 8);
-const _: () = assert!(core::mem::offset_of!(OnCycleTime, values) == 16);
 
 extern "C" {
-    // ---- a new track, a budget, an empty cycle record
+    // ---- new records: a track, a budget, an unused cycle, an option, a sine, a cycle over time
 
     // A track at time 0 with nothing set; the channel is clamped to 0..15. Refuses 4, and then hands back a track
     // of timebase 0, which no call takes.
     pub fn dollavir_track_new(timebase: i32, channel: i32) -> TrackAnswer;
 
-    // Nothing used yet, the flag clear.
-    pub fn dollavir_budget_new(seed: u32, maximum: u32) -> Budget;
+    // Nothing used yet, the flag clear. Refuses 4, and then hands back a budget of zeros.
+    pub fn dollavir_budget_new(seed: u32, maximum: u32) -> BudgetAnswer;
 
     // What an unused place of a table of cycles holds.
     pub fn dollavir_cycle_none() -> Cycle;
+
+    // No delay, no random, no range, no repeat.
+    pub fn dollavir_write_option_new() -> WriteOption;
+
+    // A sine for a target's notes. Refuses 2, 4, and then hands back a sine of zeros.
+    pub fn dollavir_on_note_sine_new(target: i32, shape: u32, low: i32, high: i32, len: i32, times: i32) -> SineAnswer;
+
+    // A cycle over time of its own. Refuses 3, 4, and then hands back a cycle of zeros.
+    pub fn dollavir_cycle_time_new(start: i64, len: i32, values: *const i32, values_length: usize) -> CycleTimeAnswer;
+
+    // ---- a number in a range
+
+    // Below `low` gives `low`, otherwise above `high` gives `high`, whichever of the two is the greater.
+    pub fn dollavir_value_range(low: i64, v: i64, high: i64) -> i64;
 
     // ---- the track's own numbers
 

@@ -78,6 +78,10 @@ fn leaf(desk: &mut Desk, op: i64, a: &[i64]) -> Reply {
             answer(&[value as i64, i64::from(seed)])
         }
         203 => answer(&[i64::from(reserve(desk, a[0], a[1]))]),
+        205 => {
+            desk.budget = Budget { seed: a[0], maximum: a[1], used: 0, flag: 0 };
+            done()
+        }
         _ => answer(&[private::step_budget(desk.budget.maximum as usize, desk.budget.used as usize) as i64]),
     }
 }

@@ -17,9 +17,9 @@ fn reply(code: u32, answers: &[i64]) -> Reply {
     Reply { code: i64::from(code), answers, ..Reply::default() }
 }
 
-/// Whether the library has the call: not the inner ones. The record that call 418 is lent holds no list that is too long.
+/// Whether the library has the call: not the inner ones.
 pub fn exports(step: &Step) -> bool {
-    !is_inner(step.op) && (step.op != 418 || step.parts().1.len() <= LIST_LIMIT)
+    !is_inner(step.op)
 }
 
 pub fn make(desk: &mut Other, step: &Step) -> Reply {
@@ -28,6 +28,7 @@ pub fn make(desk: &mut Other, step: &Step) -> Reply {
     unsafe {
         match step.op / 100 {
             1 => constructor(desk, step.op, a),
+            2 => leaf(desk, step.op, a),
             3 => listed(desk, step.op, a),
             4 => parameter(desk, step.op, a, &list),
             5 => of_track(&mut desk.track, step.op, a, &list),
@@ -36,6 +37,19 @@ pub fn make(desk: &mut Other, step: &Step) -> Reply {
             _ => numbered(desk, step.op, a),
         }
     }
+}
+
+unsafe fn leaf(desk: &mut Other, op: i64, a: &[i64]) -> Reply {
+    if op == 201 {
+        return reply(0, &[dollavir_value_range(a[0], a[1], a[2])]);
+    }
+    let made = dollavir_budget_new(a[0] as u32, a[1] as u32);
+    if made.code == 0 {
+        desk.budget = made.budget;
+    } else {
+        assert!(made.budget == Budget { seed: 0, maximum: 0, used: 0, over: 0 }, "a refused budget is not of zeros");
+    }
+    reply(made.code, &[])
 }
 
 unsafe fn constructor(desk: &Other, op: i64, a: &[i64]) -> Reply {
@@ -147,11 +161,14 @@ unsafe fn parameter(desk: &mut Other, op: i64, a: &[i64], list: &[i32]) -> Reply
 }
 
 unsafe fn cycle_time(a: &[i64], list: &[i32]) -> Reply {
-    let mut values = Numbers { count: list.len(), items: [0; LIST_LIMIT] };
-    values.items[..list.len()].copy_from_slice(list);
-    let cycle = OnCycleTime { start: a[0], length: a[1] as i32, values };
+    let made = dollavir_cycle_time_new(a[0], a[1] as i32, list.as_ptr(), list.len());
+    if made.code != 0 {
+        let zeros = OnCycleTime { start: 0, length: 0, values: Numbers { count: 0, items: [0; LIST_LIMIT] } };
+        assert!(made.cycle == zeros, "a refused cycle is not of zeros");
+        return reply(made.code, &[]);
+    }
     let (mut found, mut value) = (77, 77);
-    let code = dollavir_cycle_time_calc(&cycle, a[2], &mut found, &mut value);
+    let code = dollavir_cycle_time_calc(&made.cycle, a[2], &mut found, &mut value);
     reply(code, &[i64::from(found), i64::from(value)])
 }
 
@@ -285,6 +302,10 @@ unsafe fn reserved(desk: &mut Other, op: i64, a: &[i64], list: &[i32]) -> Reply 
         704 => dollavir_set_on_note_wave(track, cycles, places, target, a[1] as u32, values, length),
         705 => {
             let sine = OnNoteSine { target, shape: a[1] as u32, low: word(2), high: word(3), length: word(4), times: word(5) };
+            let made = dollavir_on_note_sine_new(target, sine.shape, sine.low, sine.high, sine.length, sine.times);
+            let zeros = OnNoteSine { target: 0, shape: 0, low: 0, high: 0, length: 0, times: 0 };
+            assert!(made.sine == if made.code == 0 { sine } else { zeros }, "a new sine is not what was handed in, or refused not of zeros");
+            assert!((made.code == 2) == !(0..=129).contains(&target), "a new sine's target is refused wrongly");
             dollavir_set_on_note_sine(track, cycles, places, target, sine)
         }
         706 => dollavir_set_on_cycle(track, cycles, places, target, word(1), values, length),

@@ -160,13 +160,13 @@ impl Pair {
     /// A call that was made left what it is not lent, or only to read.
     fn not_lent(&self, step: &Step) -> Result<(), Difference> {
         let (before, after, family) = (&self.before, &self.port, step.op / 100);
-        if matches!(family, 1 | 3) || matches!(step.op, 418 | 601 | 607..=611 | 708 | 709) {
+        if matches!(family, 1 | 2 | 3) || matches!(step.op, 418 | 601 | 607..=611 | 708 | 709) {
             kept("the track", &before.track, &after.track)?;
         }
         if family != 7 || matches!(step.op, 702 | 707 | 708 | 711 | 713) {
             kept("the cycle table", &before.cycles, &after.cycles)?;
         }
-        if !matches!(step.op, 607..=610 | 707..=709) {
+        if !matches!(step.op, 205 | 607..=610 | 707..=709) {
             kept("the budget", &before.budget, &after.budget)?;
         }
         kept("the record past the cycle table", &before.cycles[16], &after.cycles[16])

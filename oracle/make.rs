@@ -57,7 +57,7 @@ pub fn script(seed: u64, count: usize, families: &[i64]) -> Vec<Step> {
 
 /// Not in the Rust's interface: handed only sound state and arguments.
 pub fn is_inner(op: i64) -> bool {
-    matches!(op, 201..=204 | 301..=303 | 606)
+    matches!(op, 202..=204 | 301..=303 | 606)
 }
 
 fn weight(op: i64) -> usize {
@@ -226,6 +226,11 @@ impl Maker {
             202 => {
                 let seed = dice.pick(2, 4_294_967_295);
                 Some(vec![dice.of(&[0, 1, 4_294_967_295, seed, seed]), dice.good(Arg::Long), dice.good(Arg::Random)])
+            }
+            205 => {
+                let seed = dice.pick(2, 4_294_967_295);
+                let maximum = if spoilt.is_some() { dice.bad(Arg::Bytes).unwrap() } else { dice.good(Arg::Bytes) };
+                Some(vec![dice.of(&[0, 1, 4_294_967_295, seed]), maximum])
             }
             203 => {
                 let kind = dice.pick(0, 8);

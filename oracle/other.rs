@@ -29,12 +29,15 @@ impl Other {
     pub fn new(timebase: i64, channel: i64, room: i64) -> Other {
         let made = unsafe { dollavir_track_new(timebase as i32, channel as i32) };
         assert!(made.code == 0, "a desk whose track is refused");
+        assert!(made.track.options.iter().all(|&it| it == unsafe { dollavir_write_option_new() }), "a new track's options are not new ones");
+        let lent = unsafe { dollavir_budget_new(1, 80000) };
+        assert!(lent.code == 0, "a desk whose budget is refused");
         assert!(made.track.layers == unsafe { dollavir_layers_new() }, "a new track's layers are not new ones");
         let room = room as usize;
         Other {
             track: made.track,
             cycles: [unsafe { dollavir_cycle_none() }; LENDABLE],
-            budget: unsafe { dollavir_budget_new(1, 80000) },
+            budget: lent.budget,
             events: vec![0; (room + 1) * WIDTH],
             room,
             count: 0,

@@ -76,6 +76,7 @@ fn number_ok(arg: Arg, x: i64) -> bool {
         Arg::Long => within(x, 22),
         Arg::Random => x <= 1 << 20,
         Arg::Peak => x.abs() <= 16383,
+        Arg::Bytes => (0..=BYTES).contains(&x),
         _ => true,
     }
 }

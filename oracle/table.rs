@@ -24,6 +24,8 @@ pub enum Arg {
     Random,
     /// An end of a sine.
     Peak,
+    /// A budget's maximum: 0 to 67,108,864.
+    Bytes,
     /// A velocity layer; refused with 5.
     Layer,
     /// How many cycle records are lent; refused with 1.
@@ -92,6 +94,7 @@ pub const CALLS: &[Call] = &[
     call(202, "calc_rand_value", "", &[Raw, Long, Random]),
     call(203, "reserve_event", "", &[Choice(8), Length]),
     call(204, "safe_iteration_limit", "", &[]),
+    call(205, "budget_new", "", &[Raw, Bytes]),
     call(301, "append", "A", RECORD),
     call(302, "read", "E", &[Word]),
     call(303, "remove_events_in_range", "E", &[Target, Time, Time]),

@@ -15,8 +15,11 @@ from thin import Call
 
 # The calls that are exported: `crate::function` by its own name, or `crate::function=NAME`.
 TABLE = """
-A new track, a budget, an empty cycle record
-    state::Track::new=track_new budget::Budget::new=budget_new tables::no_cycle=cycle_none
+New records: a track, a budget, an unused cycle, an option, a sine, a cycle over time
+    state::Track::new=track_new budget::Budget::new=budget_new cycles::Cycle::none=cycle_none values::WriteOption::new=write_option_new
+    tables::OnNoteSine::new=on_note_sine_new reserved::OnCycleTime::new=cycle_time_new
+A number in a range
+    numbers::value_range
 The track's own numbers
     state::set_timepos state::set_channel state::set_cc_on_time_freq state::set_pb_on_time_freq
 A target's option
@@ -91,7 +94,8 @@ ANSWERS = {
 LISTED = ('Outcome', 'Noted', 'Cycled', 'Taken')  # they leave a list besides
 LETTER = {'track': 't', 'value': 'v', 'budget': 'b', 'count': 'n', 'option': 'o', 'cycles': 'cs', 'param': 'p', 'layers': 'l', 'bytes': 'n', 'found': 'k'}
 HOME = {**{k: v[0] for k, v in ANSWERS.items()}, 'Answer': 'lending', 'Track': 'state', 'Budget': 'budget', 'Cycle': 'cycles', 'WriteOption': 'values', 'OnNoteSine': 'tables',
-        'NoteParam': 'params', 'Layers': 'layers', 'Event': 'events', 'Made': 'events', 'OnCycleTime': 'reserved'}
+        'NoteParam': 'params', 'Layers': 'layers', 'Event': 'events', 'Made': 'events', 'OnCycleTime': 'reserved', 'BudgetAnswer': 'budget', 'SineAnswer': 'tables',
+        'CycleTimeAnswer': 'reserved'}
 LENT = ('track', 'param', 'layers', 'event', 'cycle', 'budget', 'count')  # by value to the call, by reference here
 ALONE = ('eventlist', 'sorting', 'notes', 'cutting')  # calls that are lent slices and numbers alone: the prover covers them, and no walk is written
 
@@ -139,7 +143,7 @@ class Export:
             taken = [('track', 'val', 'Track'), ('cycles', 'table', 'Cycle')] + [p for p in taken if p[0] not in ('track', 'size', 'cycles')]
         self.params, self.args = [], []
         for n, kind, t in taken:
-            n = {'self': snake(t).replace('note_param', 'param'), 'is_big': 'big'}.get(n, n)
+            n = {'self': snake(t).replace('note_param', 'param'), 'is_big': 'big', 'length': 'len'}.get(n, n)
             lent = kind == 'val' and n in LENT and (t[0].isupper() or n in self.fields) and not self.whole and self.g.name != 'split_note_off'
             way = '&mut ' if n in self.fields else '&'
             self.params.append((n, way + t if lent else {'table': f'&mut [{t}]', 'slice': f'&[{t}]', 'ref': f'&mut {t}'}.get(kind, t)))
@@ -174,7 +178,7 @@ class Export:
 
     def lent(self, text):
         """A definition's text, with what is by value there read where it is lent here."""
-        for a, b in (('is_big', 'big'), ('self', self.params[0][0] if self.params else '')):
+        for a, b in (('is_big', 'big'), ('self', self.params[0][0] if self.params else '')) + (('length', 'len'),) * any(n == 'length' for n, _, _ in self.g.params):
             text = re.sub(walk.WORD % a, b, text)
         names = [n for n, t in self.params if t.startswith('&') and '[' not in t]
         if names:
@@ -247,6 +251,8 @@ class Export:
         start = 'c' + ' .before' * (5 if alone else 1 + any(t.startswith('&') for _, t in self.params))
         if signed:
             said = f'rw ({", ".join(f"toZ-ofZ (s .fits .{n})" for n in signed)}) at ({said})'
+        if self.answer in ('i32', 'i64'):
+            said = f'toZ-ofZ {{w = w{self.answer[1:]}}} (sfits-of (c .{d} .ok)) ∙ ({said})'
         if alone:
             said = f'let e = {said} in record {{ code = ap (λ (t : Taken). t .code) (e .0); count = ap (λ (t : Taken). t .count) (e .0); events = e .1 }}'
         if signed:
@@ -254,6 +260,8 @@ class Export:
         m, spec = f'Rattle.ctrack.proofs.{self.name}', self.name.replace('_', '-') + '-spec'
         out = [f'-- `{self.name}` is `{self.ref}`. Written by tools/ctrack.py.', 'use borrow.Author.Needs.{needs}']
         out += ['use mathlib.Core.Path.{ap}', 'use Rattle.eventlist.specs.declared.Taken.{Taken}'] * alone + ['use mir.Facts.{toZ-ofZ}'] * bool(signed)
+        if self.answer in ('i32', 'i64'):
+            out[1:] = ['use mathlib.Core.Path.{_∙_}', f'use mir.Syntax.{{w{self.answer[1:]}}}', 'use mir.Facts.{toZ-ofZ}', 'use borrow.Author.Needs.{needs, sfits-of}']
         out += [f'use {m}.Statement.{{statement}}', f'use {m}.Tie as tie', '', f'{d}-requires : tie.Need-{d}-requires', f'{d}-requires c κs = search needs', '']
         out += ['same-length : tie.Need-same-length', 'same-length c = search needs', ''] * alone + ['returns : tie.Need-returns', f'returns c = {said}', '']
         out += [f'pub {spec} : {{M : Type 1}} → statement M', f'{spec} = tie.close (tie.spec {d}-requires {"same-length " * alone}returns)', '']
@@ -293,7 +301,7 @@ HEAD = '''// The calls as a C program makes them, by the names of docs/API.md af
 // that it reads by `&`; what a call answers besides its number goes to where its last parameters point. The number is that of
 // document 01's table. Refused, all that is lent stays as it is, and a value that is answered is 0. Written by tools/ctrack.py.
 '''
-OWN_CITES = {'Rattle.reserving.specs.Old': ['normal'], 'Rattle.sines.specs.Kinds': ['sineType'], 'Rattle.reserved.specs.Cycle': ['said', 'calcOf'], 'Rattle.ctrack.specs.Kinds': ['shapeOf', 'toldOf']}
+OWN_CITES = {'Rattle.reserving.specs.Old': ['normal'], 'Rattle.sines.specs.Kinds': ['numberOf', 'sineType'], 'Rattle.reserved.specs.Cycle': ['said', 'calcOf'], 'Rattle.ctrack.specs.Kinds': ['toldOf']}
 OWN = '''// What the setters of a controller or a bend hand to those of a target: a wave as it is, and the code of the bends.
 fn as_it_is() -> u32
     ensures { λ r. ⌜ r ≡ normal ⌝ }
@@ -309,7 +317,7 @@ fn bend() -> i32
 
 // The kind of a sine as a number: 0 the full turn, 1 and 2 the quarters up and down.
 fn shape_of(kind: SineType) -> u32
-    ensures { λ r. ⌜ r ≡ shapeOf kind ⌝ }
+    ensures { λ r. ⌜ r ≡ numberOf kind ⌝ }
 {
     match kind {
         SineType::Sine => 0,
@@ -348,7 +356,7 @@ SINE_TYPE = '''// ---- the kind of a sine
 // turn, which is 0. Refuses nothing.
 #[no_mangle]
 pub extern "C" fn dollavir_sine_type(v: i32) -> u32
-    ensures { λ r. ⌜ r ≡ shapeOf (sineType v) ⌝ }
+    ensures { λ r. ⌜ r ≡ numberOf (sineType v) ⌝ }
 {
     let wide = widened(v);
     let kind = SineType::from_i(wide);
@@ -381,7 +389,7 @@ def source():
             alias.update({(x.name, n): short for x in xs})
     records = dict.fromkeys(ANSWERS[x.answer][1] for x in lent)
     types = set(re.findall(r'[A-Z]\w*', ' '.join(t for x in every for _, t in x.params)))
-    types |= {x.g.owner for x in every if x.g.owner} | {x.result for x in every if x.g.crate not in ALONE}
+    types |= {x.g.owner for x in every if x.g.owner} | {x.result for x in every if x.g.crate not in ALONE and x.result[0].isupper()}
     out = [HEAD + 'ghost use mathlib.Core.Path.{_≡_};', 'ghost use lib.IntN.{pos};']
     for module, names in OWN_CITES.items():
         uses[module] = list(dict.fromkeys(uses.get(module, []) + names))

@@ -143,7 +143,7 @@ int main(void) {
         return 1;
     }
     idle = depth(nothing);
-    budget = dollavir_budget_new(1, 67108864);
+    budget = dollavir_budget_new(1, 67108864).budget;
     for (int i = 0; i < PLACES; i++) {
         cycles[i] = dollavir_cycle_none();
     }

@@ -28,7 +28,9 @@ int main(void) {
     for (int i = 0; i < PLACES; i++) {
         cycles[i] = dollavir_cycle_none();
     }
-    dollavir_budget budget = dollavir_budget_new(1, 80000);
+    dollavir_budget_answer lent = dollavir_budget_new(1, 80000);
+    must("budget_new", lent.code);
+    dollavir_budget budget = lent.budget;
     size_t count = 0;
 
     // From 40 up to 110 in two beats and down again in two more, a value every 48 steps.

@@ -28,7 +28,9 @@ fn main() {
         must("track_new", made.code);
         let mut track = made.track;
         let mut cycles = [dollavir_cycle_none(); 16];
-        let mut budget = dollavir_budget_new(1, 80000);
+        let lent = dollavir_budget_new(1, 80000);
+        must("budget_new", lent.code);
+        let mut budget = lent.budget;
 
         // From 40 up to 110 in two beats and down again in two more, a value every 48 steps.
         let swell = [40, 110, 192, 110, 40, 193];

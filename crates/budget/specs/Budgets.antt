@@ -7,6 +7,7 @@ use Rattle.numbers.specs.Random.{nextRand, spread, seedAfter}
 use Rattle.numbers.specs.Ranges.{isBytes}
 use Rattle.numbers.specs.Limits.{valueBytes}
 use Rattle.budget.specs.declared.Budget.{Budget}
+use Rattle.budget.specs.declared.BudgetAnswer.{BudgetAnswer}
 use Rattle.budget.specs.declared.Rolled.{Rolled}
 
 -- "budget maximum and bytes used: 0 to 67,108,864; used may exceed the maximum"; the flag is 0 or 1
@@ -16,6 +17,10 @@ okBudget b = isBytes (b .maximum) && isBytes (b .used) && leb (b .over) 1
 -- a budget of which nothing is used
 abbrev pub unspent : ℕ → ℕ → Budget
 unspent y n = record { seed = y; maximum = n; used = 0; over = 0 }
+
+-- a new budget; 4 and a budget of zeros where the maximum is outside its range
+unfoldable pub newBudget : ℕ → ℕ → BudgetAnswer
+newBudget y n = cond (isBytes n) (record { code = 0; budget = unspent y n }) (record { code = 4; budget = unspent 0 0 })
 
 -- maximum - used, at least 0
 abbrev pub free : Budget → ℕ

@@ -5,7 +5,7 @@ ghost use mathlib.Core.Path.{_≡_};
 ghost use Prim.Native.Nat.{_<_, _^_};
 ghost use lib.Signed.{mag};
 ghost use Rattle.numbers.specs.Limits.{valueBytes};
-ghost use Rattle.budget.specs.Budgets.{unspent, okBudget, free, room, stepBudget, stepped, fits, reserved, rolled};
+ghost use Rattle.budget.specs.Budgets.{newBudget, okBudget, free, room, stepBudget, stepped, fits, reserved, rolled};
 
 // `used` may exceed `maximum`; `over` is 1 once a write did not fit, else 0.
 #[repr(C)]
@@ -14,6 +14,13 @@ pub struct Budget {
     pub maximum: u32,
     pub used: u32,
     pub over: u32,
+}
+
+// What `Budget::new` answers: 0 and the budget, or the refusal's number and a budget of zeros.
+#[repr(C)]
+pub struct BudgetAnswer {
+    pub code: u32,
+    pub budget: Budget,
 }
 
 // What asking for bytes gives.
@@ -29,15 +36,31 @@ pub struct Rolled {
 }
 
 impl Budget {
-    // Nothing used yet, the flag clear.
-    pub fn new(seed: u32, maximum: u32) -> Budget
-        ensures { λ r. ⌜ r ≡ unspent seed maximum ⌝ }
+    // Nothing used yet, the flag clear. Refuses 4, and then hands back a budget of zeros.
+    pub fn new(seed: u32, maximum: u32) -> BudgetAnswer
+        ensures { λ r. ⌜ r ≡ newBudget seed maximum ⌝ }
     {
-        Budget {
+        if !numbers::is_bytes(maximum) {
+            let none = Budget {
+                seed: 0,
+                maximum: 0,
+                used: 0,
+                over: 0,
+            };
+            return BudgetAnswer {
+                code: 4,
+                budget: none,
+            };
+        }
+        let made = Budget {
             seed: seed,
             maximum: maximum,
             used: 0,
             over: 0,
+        };
+        BudgetAnswer {
+            code: 0,
+            budget: made,
         }
     }
 }

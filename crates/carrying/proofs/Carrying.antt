@@ -1,23 +1,21 @@
 -- What a record's call leaves, on its definition, by the tests on the way: both frequencies or neither, a new budget, and the call
 -- of the record's mark.
-use mathlib.Core.Path.{_≡_, ap, sym, _∙_}
-use mathlib.Core.Bool.{true, false, true≢false}
+use mathlib.Core.Path.{_≡_, refl, ap, sym, _∙_}
+use mathlib.Core.Bool.{Bool, true, false, cond}
 use mathlib.Core.List.{List}
-use Prim.Native.Nat.{ℕ}
+use Prim.Native.Nat.{ℕ, suc, _-_, _<_, _^_}
 use native.Mathlib.Omega.{arith}
-use lib.Dec.{T}
-use lib.IntN.{ℤ, pos, negsuc, natAbs}
-use lib.Signed.{nonNeg}
+use lib.Dec.{leb}
+use lib.IntN.{ℤ, pos, negsuc}
+use lib.Signed.{mag}
 use mir.Syntax.{w32}
-use mir.Val.{ofZ, Fits}
-use borrow.Author.Tests.{eq-eqb, ne-eqb}
+use mir.Val.{ofZ}
+use borrow.Author.Tests.{eq-eqb, ne-eqb, le-leb, lt-leb}
 use Rattle.laws.specs.Integers.{inside}
-use Rattle.laws.proofs.Cuts.{nonNeg-cut}
-use Rattle.laws.proofs.Ranges.{inside-mag}
-use Rattle.laws.proofs.Signed.{natAbs-le}
 use Rattle.numbers.specs.Limits.{byteLimit}
-use Rattle.budget.specs.declared.Budget.{Budget}
-use Rattle.budget.specs.Budgets.{unspent}
+use Rattle.numbers.specs.Ranges.{isBytes}
+use Rattle.budget.specs.declared.BudgetAnswer.{BudgetAnswer}
+use Rattle.budget.specs.Budgets.{unspent, newBudget}
 use Rattle.state.specs.declared.Track.{Track}
 use Rattle.state.specs.declared.TrackAnswer.{TrackAnswer}
 use Rattle.state.specs.Calls.{setCcFreq, setPbFreq}
@@ -25,7 +23,7 @@ use Rattle.reel.specs.declared.marks.Mark.{Mark}
 use Rattle.reel.specs.declared.records.Record.{Record}
 use Rattle.carrying.specs.declared.State.{State}
 use Rattle.carrying.specs.declared.Carried.{Carried}
-use Rattle.carrying.specs.Carry.{carriedTo, stateOf, isMaximum, makeBudget, second, afterFirst, bothFreqs, Left, carriedAs, carried}
+use Rattle.carrying.specs.Carry.{second, afterFirst, bothFreqs, Left, carriedAs, carried}
 
 module _ (a : Track) (x y : ℤ) (t : TrackAnswer) (e : t ≡ setCcFreq a x) where
   opened : afterFirst a y t ≡ bothFreqs a x y
@@ -45,24 +43,15 @@ module _ (a : Track) (x y : ℤ) (t : TrackAnswer) (e : t ≡ setCcFreq a x) whe
     pub both-set : u .code ≡ 0 → u ≡ bothFreqs a x y
     both-set n = let g : u ≡ second a u = rw (eq-eqb (u .code) 0 n) in g ∙ set-first
 
-up : (n : ℕ) (z : ℤ) → inside (pos 0) (pos n) z ≡ true → T (nonNeg z)
-unfolding inside
-up n (pos k) e = tt
-up n (negsuc k) e = absurd (true≢false (sym e))
-
-pub maximum-up : (z : ℤ) → isMaximum z ≡ true → T (nonNeg z) × Fits w32 (natAbs z)
-unfolding isMaximum
-maximum-up z e = (up byteLimit z e, omega (arith, inside-mag byteLimit z e, natAbs-le z))
-
-module _ (s : State) (r : Record) where
-  pub no-budget : isMaximum (r .x) ≡ false → carriedTo 4 s ≡ makeBudget s r
-  unfolding makeBudget
-  no-budget h = rw h
-
-  pub new-budget : isMaximum (r .x) ≡ true → {b : Budget} {seed maximum : ℕ} → b ≡ unspent seed maximum → seed ≡ ofZ w32 (r .y) → maximum ≡ natAbs (r .x)
-      → carriedTo 0 (stateOf (s .track) (s .cycles) b (s .count)) ≡ makeBudget s r
-  unfolding makeBudget
-  new-budget h e p q = rw (h, e, p, q ∙ nonNeg-cut (r .x) (maximum-up (r .x) h .0))
+-- MX: the maximum's bits are asked as the maximum is, "0 to 67,108,864", else 4
+pub maximum-asked : (z : ℤ) (y : ℕ) → mag z < 2 ^ 31 → newBudget y (ofZ w32 z) .code ≡ cond (inside (pos 0) (pos byteLimit) z) 0 4
+unfolding newBudget isBytes inside
+maximum-asked (pos n) y h = rw (le-leb 0 n (omega arith)) (go (leb n byteLimit))
+  where
+    go : (t : Bool) → cond {A = BudgetAnswer} t (record { code = 0; budget = unspent y n }) (record { code = 4; budget = unspent 0 0 }) .code ≡ cond t 0 4
+    go true = refl
+    go false = refl
+maximum-asked (negsuc n) y h = rw (lt-leb (2 ^ 32 - suc n) byteLimit (omega arith))
 
 -- a record whose mark is m is carried out as m's
 pub by-mark : (s : State) (r : Record) (l : List ℤ) (m : Mark) → r .mark ≡ m → {d : Carried} {x : List ℤ} → d ≡ carriedAs m s r l .done → x ≡ carriedAs m s r l .events

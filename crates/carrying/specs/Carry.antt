@@ -1,17 +1,17 @@
 -- 01, "The tape program": the call that each record names, and what it leaves. Everything is said by the calls' own
 -- definitions; a list is handed to a call as the record has it.
-use mathlib.Core.Bool.{Bool, cond}
+use mathlib.Core.Bool.{cond}
 use mathlib.Core.List.{List}
 use Prim.Native.Nat.{ℕ}
 use lib.Dec.{eqb}
 use lib.IntN.{ℤ, pos}
 use mir.Syntax.{w32}
 use mir.Val.{ofZ}
-use Rattle.laws.specs.Integers.{inside, cut}
-use Rattle.numbers.specs.Limits.{places, byteLimit}
+use Rattle.numbers.specs.Limits.{places}
 use Rattle.counted.specs.Numbers.{shown}
 use Rattle.budget.specs.declared.Budget.{Budget}
-use Rattle.budget.specs.Budgets.{unspent}
+use Rattle.budget.specs.declared.BudgetAnswer.{BudgetAnswer}
+use Rattle.budget.specs.Budgets.{newBudget}
 use Rattle.eventlist.specs.declared.Taken.{Taken}
 use Rattle.cutting.specs.Cuts.{plain, cutTaken, cutLeft}
 use Rattle.cycles.specs.declared.Cycle.{Cycle}
@@ -44,15 +44,12 @@ trackAnswered s t = carriedTo (t .code) (stateOf (t .track) (s .cycles) (s .budg
 unfoldable pub makeTrack : State → Record → Carried
 makeTrack s r = trackAnswered s (newOf (r .x) (r .y))
 
--- ---- MX maximum seed: "the seed as bits"; a maximum "0 to 67,108,864", else 4
-unfoldable pub isMaximum : ℤ → Bool
-isMaximum z = inside (pos 0) (pos byteLimit) z
+-- ---- MX maximum seed: "the seed as bits"; of a maximum below 0 the bits are above every maximum
+abbrev pub budgetAnswered : State → BudgetAnswer → Carried
+budgetAnswered s b = carriedTo (b .code) (stateOf (s .track) (s .cycles) (b .budget) (s .count))
 
 unfoldable pub makeBudget : State → Record → Carried
-makeBudget s r =
-    cond (isMaximum (r .x))
-    (carriedTo 0 (stateOf (s .track) (s .cycles) (unspent (ofZ w32 (r .y)) (cut (r .x))) (s .count)))
-    (carriedTo 4 s)
+makeBudget s r = budgetAnswered s (newBudget (ofZ w32 (r .y)) (ofZ w32 (r .x)))
 
 -- ---- TP timepos
 unfoldable pub moveTo : State → Record → Carried

@@ -51,20 +51,17 @@ fn make_track(mut state: State, r: Record) -> Carried
     }
 }
 
-// MX: a new budget. Refuses 4.
+// MX: a new budget. A maximum below 0 has bits above every maximum, and is refused as one of those.
 fn make_budget(mut state: State, r: Record) -> Carried
     ensures { λ r′. ⌜ r′ ≡ makeBudget state r ⌝ }
 {
-    if !numbers::within_i32(0, r.x, 67108864) {
-        return Carried {
-            code: 4,
-            state: state,
-        };
-    }
+    let maximum = text::bits_of(r.x);
     let seed = text::bits_of(r.y);
-    state.budget = Budget::new(seed, r.x as u32);
+    let b = Budget::new(seed, maximum);
+    let budget = b.budget;
+    state.budget = budget;
     Carried {
-        code: 0,
+        code: b.code,
         state: state,
     }
 }

@@ -20,10 +20,13 @@ use Rattle.tables.proofs.SineTable.Laws as SineTable′
 use Rattle.state.proofs.Track.Laws as Track′
 use Rattle.state.proofs.TrackAnswer.Laws as TrackAnswer′
 use Rattle.budget.proofs.Budget.Laws as Budget′
+use Rattle.budget.proofs.BudgetAnswer.Laws as BudgetAnswer′
 use Rattle.cycles.proofs.Cycle.Laws as Cycle′
+use Rattle.tables.proofs.SineAnswer.Laws as SineAnswer′
+use Rattle.reserved.proofs.OnCycleTime.Laws as OnCycleTime′
+use Rattle.reserved.proofs.CycleTimeAnswer.Laws as CycleTimeAnswer′
 use Rattle.events.proofs.Event.Laws as Event′
 use Rattle.events.proofs.Made.Laws as Made′
-use Rattle.reserved.proofs.OnCycleTime.Laws as OnCycleTime′
 
 -- the place of each field, where the first may stand at k
 abbrev pub places : ℕ → Tys → List ℕ
@@ -88,14 +91,23 @@ track-answer-lies = refl
 pub budget-lies : lies Budget′.mir ≡ 16 ∷ 4 ∷ 0 ∷ 4 ∷ 8 ∷ 12 ∷ []
 budget-lies = refl
 
+pub budget-answer-lies : lies BudgetAnswer′.mir ≡ 20 ∷ 4 ∷ 0 ∷ 4 ∷ []
+budget-answer-lies = refl
+
 pub cycle-lies : lies Cycle′.mir ≡ 416 ∷ 8 ∷ 0 ∷ 4 ∷ 8 ∷ 16 ∷ 24 ∷ []
 cycle-lies = refl
+
+pub sine-answer-lies : lies SineAnswer′.mir ≡ 28 ∷ 4 ∷ 0 ∷ 4 ∷ []
+sine-answer-lies = refl
+
+pub on-cycle-time-lies : lies OnCycleTime′.mir ≡ 408 ∷ 8 ∷ 0 ∷ 8 ∷ 16 ∷ []
+on-cycle-time-lies = refl
+
+pub cycle-time-answer-lies : lies CycleTimeAnswer′.mir ≡ 416 ∷ 8 ∷ 0 ∷ 8 ∷ []
+cycle-time-answer-lies = refl
 
 pub event-lies : lies Event′.mir ≡ 64 ∷ 8 ∷ 0 ∷ 8 ∷ 16 ∷ 24 ∷ 32 ∷ 40 ∷ 48 ∷ 56 ∷ []
 event-lies = refl
 
 pub made-lies : lies Made′.mir ≡ 72 ∷ 8 ∷ 0 ∷ 8 ∷ []
 made-lies = refl
-
-pub on-cycle-time-lies : lies OnCycleTime′.mir ≡ 408 ∷ 8 ∷ 0 ∷ 8 ∷ 16 ∷ []
-on-cycle-time-lies = refl

@@ -4,8 +4,12 @@
 ghost use mathlib.Core.Path.{_≡_};
 ghost use lib.IntN.{pos};
 ghost use Rattle.state.specs.Calls.{newOf, setTimepos, setChannel, setCcFreq, setPbFreq};
-ghost use Rattle.budget.specs.Budgets.{unspent};
-ghost use Rattle.tables.specs.Tables.{noCycle};
+ghost use Rattle.budget.specs.Budgets.{newBudget};
+ghost use Rattle.cycles.specs.Rules.{noCycle};
+ghost use Rattle.values.specs.Options.{newOption};
+ghost use Rattle.tables.specs.Tables.{newSine};
+ghost use Rattle.reserved.specs.Setting.{newCycleTime};
+ghost use Rattle.laws.specs.Integers.{rangeOf};
 ghost use Rattle.drawing.specs.Options.{optionFor, setDelay, setRandom, setRange, clearRange, setRepeat};
 ghost use Rattle.params.specs.Calls.{setDelay as paramsSetDelay, setRandom as paramsSetRandom, setRange as paramsSetRange, clearRange as paramsClearRange, setRepeat as paramsSetRepeat, setOnNote as paramsSetOnNote, setOnCycle as paramsSetOnCycle, setOnTime, clearReserve, setMax, clearMax, hasReserve, calcOnTime, calcOnNote, applyLimit, maximumOr};
 ghost use lib.ListN.{length};
@@ -27,10 +31,11 @@ ghost use Rattle.events.specs.Events.{noteEvent, made, voiceEvent, madeCc, pitc
 ghost use Rattle.params.specs.Param.{fresh};
 ghost use Rattle.layers.specs.Layers.{oneLayer};
 ghost use Rattle.reserved.specs.Cycle.{calcOf, said};
-ghost use Rattle.ctrack.specs.Kinds.{toldOf, shapeOf};
-ghost use Rattle.sines.specs.Kinds.{sineType};
+ghost use Rattle.ctrack.specs.Kinds.{toldOf};
+ghost use Rattle.sines.specs.Kinds.{numberOf, sineType};
 ghost use Rattle.ctrack.specs.Lent.{TrackLeft, OptionTold, Written, Reserved, NoteWritten, CycleWritten, CcTold, ListLeft, ValueLeft, VelocityLeft, SizeTold, ParamLeft, ParamTold, ParamTaken, LayersLeft, LayersSum, TimeTold};
 use budget::Budget;
+use budget::BudgetAnswer;
 use cutting::CcValue;
 use cycles::Cycle;
 use drawing::OptionAnswer;
@@ -48,12 +53,14 @@ use params::ParamValue;
 use params::Told;
 use playing::TrackValue;
 use playing::TrackVelocity;
+use reserved::CycleTimeAnswer;
 use reserved::CycleValue;
 use reserved::OnCycleTime;
 use sines::SineType;
 use state::Track;
 use state::TrackAnswer;
 use tables::OnNoteSine;
+use tables::SineAnswer;
 use values::WriteOption;
 use values::widened;
 use writing::Outcome;
@@ -302,7 +309,7 @@ fn bend() -> i32
 
 // The kind of a sine as a number: 0 the full turn, 1 and 2 the quarters up and down.
 fn shape_of(kind: SineType) -> u32
-    ensures { λ r. ⌜ r ≡ shapeOf kind ⌝ }
+    ensures { λ r. ⌜ r ≡ numberOf kind ⌝ }
 {
     match kind {
         SineType::Sine => 0,
@@ -348,7 +355,7 @@ fn cycle_time_calc(cycle: OnCycleTime, timepos: i64) -> CycleTold
     cycle_told(answer)
 }
 
-// ---- a new track, a budget, an empty cycle record
+// ---- new records: a track, a budget, an unused cycle, an option, a sine, a cycle over time
 // A track at time 0 with nothing set; the channel is clamped to 0..15. Refuses 4, and then hands back a track of
 // timebase 0, which no call takes.
 #[no_mangle]
@@ -358,10 +365,10 @@ pub extern "C" fn dollavir_track_new(timebase: i32, channel: i32) -> TrackAnswer
     Track::new(timebase, channel)
 }
 
-// Nothing used yet, the flag clear.
+// Nothing used yet, the flag clear. Refuses 4, and then hands back a budget of zeros.
 #[no_mangle]
-pub extern "C" fn dollavir_budget_new(seed: u32, maximum: u32) -> Budget
-    ensures { λ r. ⌜ r ≡ unspent seed maximum ⌝ }
+pub extern "C" fn dollavir_budget_new(seed: u32, maximum: u32) -> BudgetAnswer
+    ensures { λ r. ⌜ r ≡ newBudget seed maximum ⌝ }
 {
     Budget::new(seed, maximum)
 }
@@ -371,7 +378,47 @@ pub extern "C" fn dollavir_budget_new(seed: u32, maximum: u32) -> Budget
 pub extern "C" fn dollavir_cycle_none() -> Cycle
     ensures { λ r. ⌜ r ≡ noCycle ⌝ }
 {
-    tables::no_cycle()
+    Cycle::none()
+}
+
+// No delay, no random, no range, no repeat.
+#[no_mangle]
+pub extern "C" fn dollavir_write_option_new() -> WriteOption
+    ensures { λ r. ⌜ r ≡ newOption ⌝ }
+{
+    WriteOption::new()
+}
+
+// A sine for a target's notes. Refuses 2, 4, and then hands back a sine of zeros.
+#[no_mangle]
+pub extern "C" fn dollavir_on_note_sine_new(
+    target: i32,
+    shape: u32,
+    low: i32,
+    high: i32,
+    len: i32,
+    times: i32,
+) -> SineAnswer
+    ensures { λ r. ⌜ r ≡ newSine target shape low high len times ⌝ }
+{
+    OnNoteSine::new(target, shape, low, high, len, times)
+}
+
+// A cycle over time of its own. Refuses 3, 4, and then hands back a cycle of zeros.
+#[no_mangle]
+pub extern "C" fn dollavir_cycle_time_new(start: i64, len: i32, values: &[i32]) -> CycleTimeAnswer
+    ensures { λ r. ⌜ r ≡ newCycleTime start len (now (values .entry)) ⌝ }
+{
+    OnCycleTime::new(start, len, values)
+}
+
+// ---- a number in a range
+// Below `low` gives `low`, otherwise above `high` gives `high`, whichever of the two is the greater.
+#[no_mangle]
+pub extern "C" fn dollavir_value_range(low: i64, v: i64, high: i64) -> i64
+    ensures { λ r. ⌜ r ≡ rangeOf low v high ⌝ }
+{
+    numbers::value_range(low, v, high)
 }
 
 // ---- the track's own numbers
@@ -1657,7 +1704,7 @@ pub extern "C" fn dollavir_cycle_time_calc(
 // turn, which is 0. Refuses nothing.
 #[no_mangle]
 pub extern "C" fn dollavir_sine_type(v: i32) -> u32
-    ensures { λ r. ⌜ r ≡ shapeOf (sineType v) ⌝ }
+    ensures { λ r. ⌜ r ≡ numberOf (sineType v) ⌝ }
 {
     let wide = widened(v);
     let kind = SineType::from_i(wide);

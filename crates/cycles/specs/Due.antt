@@ -7,6 +7,7 @@ use lib.Dec.{eqb}
 use lib.IntN.{ℤ, pos, _+ℤ_, _-ℤ_}
 use lib.ListN.{getD}
 use Rattle.laws.specs.Integers.{cut}
+use Rattle.numbers.specs.Ranges.{isTarget}
 use Rattle.cycles.specs.declared.Cycle.{Cycle}
 
 -- a write that is due, before random, range, delay and clamp
@@ -75,9 +76,13 @@ unfoldable pub leaves : ℕ → ℤ → List Cycle → List Cycle
 leaves m t [] = []
 leaves m t (c ∷ cs) = after (min m (dueCount t c)) c ∷ leaves (m - dueCount t c) t cs
 
+-- a target's code; one that is no target's, which every call refuses by 2, counts as 0
+unfoldable pub codeOf : ℤ → ℕ
+codeOf z = cond (isTarget z) (cut z) 0
+
 -- both bends, 128 and 129, are one target
 abbrev pub key : ℤ → ℕ
-key z = min (cut z) 128
+key z = min (codeOf z) 128
 
 -- the writes of one target
 unfoldable pub only : ℕ → List DueWrite → List DueWrite

@@ -8,9 +8,13 @@ use lib.Signed.{leZ}
 use Rattle.laws.specs.Lists.{all}
 use Rattle.laws.specs.Keys.{distinct}
 use Rattle.numbers.specs.Ranges.{isTarget, isLength, isStoredTime}
-use Rattle.counted.specs.Numbers.{okNumbers}
+use Rattle.counted.specs.Numbers.{none, okNumbers}
 use Rattle.cycles.specs.declared.Cycle.{Cycle}
 use Rattle.cycles.specs.Due.{key}
+
+-- what an unused place of a table of cycles holds
+abbrev pub noCycle : Cycle
+noCycle = record { target = pos 0; length = pos 0; next = pos 0; index = 0; values = none }
 
 -- "a stored target cycle has length and count of at least 1 and a position below its count"
 unfoldable pub okCycle : Cycle → Bool

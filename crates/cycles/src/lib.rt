@@ -14,7 +14,7 @@ ghost use Rattle.numbers.specs.Ranges.{isTime};
 ghost use Rattle.events.specs.Events.{zeroEvent};
 ghost use Rattle.eventlist.specs.Rows.{rowsOf, eventsOf};
 ghost use Rattle.cycles.specs.Due.{writeOf, advanced, dueCount, owed, key};
-ghost use Rattle.cycles.specs.Rules.{okCycle};
+ghost use Rattle.cycles.specs.Rules.{noCycle, okCycle};
 ghost use Rattle.cycles.specs.Calls.{limit};
 ghost use Rattle.cycles.specs.Turns.{stepOf, made, ranState, ranOf, askFor, calledState, calledOf};
 use budget::Budget;
@@ -33,6 +33,22 @@ pub struct Cycle {
     pub next: i64,
     pub index: usize,
     pub values: Numbers,
+}
+
+impl Cycle {
+    // What an unused place of a table of cycles holds.
+    pub fn none() -> Cycle
+        ensures { λ r. ⌜ r ≡ noCycle ⌝ }
+    {
+        let values = counted::empty();
+        Cycle {
+            target: 0,
+            length: 0,
+            next: 0,
+            index: 0,
+            values: values,
+        }
+    }
 }
 
 // What a cycle's writes are asked with: up to when, on which channel, with its target's option.
@@ -78,17 +94,15 @@ pub struct Called {
     pub count: usize,
 }
 
-// What a target is told apart by: both bends are one.
+// What a target is told apart by: both bends are one. A code that is no target has the key 0.
 pub fn key_of(target: i32) -> usize
     ensures { λ r. ⌜ r ≡ key target ⌝ }
 {
-    if target <= 0 {
-        return 0;
+    match target {
+        0..=127 => target as usize,
+        128 | 129 => 128,
+        _ => 0,
     }
-    if 128 <= target {
-        return 128;
-    }
-    target as usize
 }
 
 // Whether a cycle's numbers are in their ranges, its length and count at least 1, its position below its count.

@@ -16,11 +16,11 @@ use Rattle.budget.specs.Budgets.{okBudget}
 use Rattle.eventlist.specs.Sound.{isList}
 use Rattle.eventlist.proofs.EventRows.{length-rowsOf}
 use Rattle.cycles.specs.declared.Cycle.{Cycle}
-use Rattle.cycles.specs.Due.{gap, steps, dueCount, owed}
-use Rattle.cycles.specs.Rules.{okCycle}
+use Rattle.cycles.specs.Due.{gap, steps, dueCount, owed, codeOf}
+use Rattle.cycles.specs.Rules.{noCycle, okCycle}
 use Rattle.cycles.specs.Calls.{Until, hits}
 use Rattle.cycles.specs.Promise.{Done}
-use Rattle.tables.specs.Tables.{noCycle, okCycles, lone}
+use Rattle.tables.specs.Tables.{okCycles, lone}
 use Rattle.state.specs.declared.Track.{Track}
 use Rattle.state.specs.Track.{newTrack, withTables, noNotes, noWaves, noSines}
 use Rattle.state.specs.Tests.{okPlay, okTrack, okLent}
@@ -60,7 +60,7 @@ unfolding isList
 list-ok = refl
 
 table-ok : okLent track (lent .cycles) ≡ true
-unfolding okLent newTrack okCycles lone counted all okCycle isTarget isLength isStoredTime okNumbers isNumber inside sized distinct absent zeros
+unfolding okLent newTrack okCycles lone counted all okCycle isTarget isLength isStoredTime okNumbers isNumber inside sized distinct absent zeros codeOf
 table-ok = rw track-ok
 
 budget-ok : okBudget (lent .budget) ≡ true

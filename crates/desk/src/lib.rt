@@ -47,7 +47,8 @@ pub fn answered(answer: Answer, desk: Desk) -> Called {
 
 // A desk with this track, no cycles, and an empty list of `room` records.
 fn desk_of(track: Track, room: usize) -> Desk {
-    let b = Budget::new(1, 80000);
+    let made = Budget::new(1, 80000);
+    let b = made.budget;
     let table = no_cycles();
     let items = table.items;
     Desk {

@@ -2,3 +2,4 @@ pub mod Integers
 pub mod Lists
 pub mod Rows
 pub mod Keys
+pub mod Answers

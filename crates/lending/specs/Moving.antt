@@ -7,7 +7,7 @@ use lib.IntN.{pos}
 use lib.ListN.{length, getD, set, replicate}
 use Rattle.numbers.specs.Limits.{places}
 use Rattle.cycles.specs.declared.Cycle.{Cycle}
-use Rattle.tables.specs.Tables.{noCycle}
+use Rattle.cycles.specs.Rules.{noCycle}
 use Rattle.lending.specs.declared.Job.{Job}
 use Rattle.lending.specs.declared.Moved.{Moved}
 

@@ -23,7 +23,6 @@ use cycling::cycle_refusal;
 use eventlist::WIDTH;
 use numbers::is_time;
 use state::Track;
-use tables::no_cycle;
 
 // A walk over `size` lent records, `at` the next one: it copies each into its own sixteen, or each from there.
 pub struct Job {
@@ -43,7 +42,7 @@ pub struct Moved {
 pub fn load_job(size: usize) -> Job
     ensures { λ r. ⌜ r ≡ loading size ⌝ }
 {
-    let none = no_cycle();
+    let none = Cycle::none();
     Job {
         saves: false,
         size: size,

@@ -19,7 +19,7 @@ use Rattle.eventlist.specs.Sound.{isList}
 use Rattle.values.specs.Options.{rangeIn, moved}
 use Rattle.values.specs.Clamp.{topOf, scaledFor, clamped}
 use Rattle.values.specs.Value.{eventFor, startOf, timeOf, eventOfOffer}
-use Rattle.cycles.specs.Due.{writeOf, advanced, run, after, gap, steps, dueCount, takes, leaves}
+use Rattle.cycles.specs.Due.{writeOf, advanced, run, after, gap, steps, dueCount, takes, leaves, codeOf}
 use Rattle.cycles.specs.Rules.{okCycle}
 use Rattle.cycles.specs.Calls.{limit, wrote, push, share, moved as tableMoved, call}
 use Rattle.cycles.specs.Turns.{turn, calledState}
@@ -40,11 +40,11 @@ unfolding newOf answered isTimebase inside newTrack okPlay
 well = whole cycling (track-play new new-well) (track-params new new-well) (track-layers new new-well) (track-options new new-well) (track-tables new new-well) refl
 
 lent-well : okLent cycling (table (pos 0) 0) ≡ true
-unfolding okLent okCycles counted all okCycle isTarget inside isLength sized isStoredTime okNumbers isNumber zeros lone distinct absent newOf answered isTimebase newTrack
+unfolding okLent okCycles counted all okCycle isTarget inside isLength sized isStoredTime okNumbers isNumber zeros lone distinct absent newOf answered isTimebase newTrack codeOf
 lent-well = rw well refl
 
 empty-well : okLent new noCycles ≡ true
-unfolding okLent okCycles counted all lone distinct newOf answered isTimebase inside newTrack
+unfolding okLent okCycles counted all lone distinct newOf answered isTimebase inside newTrack codeOf isTarget
 empty-well = rw new-well refl
 
 -- ---- setting it
@@ -54,7 +54,7 @@ unfolding refusal isTarget inside
 not-refused = rw empty-well
 
 pub set-is : set ≡ answer 0 cycling (table (pos 0) 0)
-unfolding setOnCycle reserving cleared isLength sized inside okNumbers counted all isNumber newOf answered isTimebase newTrack zeros left
+unfolding setOnCycle reserving cleared isLength sized inside okNumbers counted all isNumber newOf answered isTimebase newTrack zeros left codeOf isTarget
 set-is = ap (λ (n : ℕ). left n new noCycles (answer 0 cycling (table (pos 0) 0))) (unfold newOf answered isTimebase inside newTrack in not-refused)
 
 -- ---- writing it
@@ -68,7 +68,7 @@ abbrev Scarce : Kept → Type 0
 Scarce k = CycleLeaves k 16 (cycled 2 (funds 1 16 16 1) (table (pos 72) 0)) (flat numbersOf (control 11 0 10 ∷ control 11 24 20 ∷ []) ++ room 3)
 
 written : Plenty (answer 0 cycling (table (pos 0) 0)) × Scarce (answer 0 cycling (table (pos 0) 0))
-unfolding cycledOf cycledList cycleRefusal isList isTime sized inside okBudget isBytes rowsOf calledState call push wrote share tableMoved limit takes leaves dueCount steps gap run after advanced writeOf turn eventOfOffer timeOf startOf eventFor isController clamped topOf scaledFor moved rangeIn spread newOf answered isTimebase newTrack
+unfolding cycledOf cycledList cycleRefusal isList isTime sized inside okBudget isBytes rowsOf calledState call push wrote share tableMoved limit takes leaves dueCount steps gap run after advanced writeOf turn eventOfOffer timeOf startOf eventFor isController clamped topOf scaledFor moved rangeIn spread newOf answered isTimebase newTrack codeOf isTarget
 written = (record { answer = rw lent-well; left = rw lent-well }, record { answer = rw lent-well; left = rw lent-well })
 
 pub plenty : Plenty set

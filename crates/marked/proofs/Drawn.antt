@@ -24,6 +24,7 @@ use Rattle.offers.specs.Runs.{offered, newEvents, budgetAfter}
 use Rattle.offers.specs.Pieces.{valueBy, steps, points, offers, total}
 use Rattle.offers.specs.Waves.{triples}
 use Rattle.writing.specs.Calls.{windowOf, keptEvents}
+use Rattle.cycles.specs.Due.{codeOf}
 use Rattle.state.specs.declared.Track.{Track}
 use Rattle.state.specs.Track.{newTrack}
 use Rattle.state.specs.Tests.{okPlay, okOptions, okTrack}
@@ -49,7 +50,7 @@ unfolding left
 random-is = accepted (targetRefusal new (pos 7) (isRandom (pos 10))) new shaky allowed
 
 shaky-well : okTrack shaky ≡ true
-unfolding okPlay withOption optionOf newOf answered isTimebase inside newTrack okOptions all okOption isLength isRandom sized
+unfolding okPlay withOption optionOf newOf answered isTimebase inside newTrack okOptions all okOption isLength isRandom sized codeOf isTarget
 shaky-well = whole shaky (track-play new new-well) (track-params new new-well) (track-layers new new-well) refl (track-tables new new-well) refl
 
 -- ---- the writes, computed
@@ -77,7 +78,7 @@ record Computed : Type 0 where
   curve-87 : Curve 87 1
 
 computed : Computed
-unfolding drawAnswer drawLeft drawRefusal inOrder isList isTarget okBudget isBytes listed.isCurve listed.hasLength listed.triples isNumber isLength sized inside all okEvents rowsOf takenBy windowOf keptEvents newEvents offered fresh offers points steps valueBy become total triples budgetAfter spent seedsAfter ruleOf eventOfOffer eventFor timeOf startOf kindOf clamped scaledFor topOf isController moved rangeIn spread curveOf writeOf freqFor bendFreq optionOf withOption newOf answered isTimebase newTrack
+unfolding drawAnswer drawLeft drawRefusal inOrder isList isTarget okBudget isBytes listed.isCurve listed.hasLength listed.triples isNumber isLength sized inside all okEvents rowsOf takenBy windowOf keptEvents newEvents offered fresh offers points steps valueBy become total triples budgetAfter spent seedsAfter ruleOf eventOfOffer eventFor timeOf startOf kindOf clamped scaledFor topOf isController moved rangeIn spread curveOf writeOf freqFor bendFreq optionOf withOption newOf answered isTimebase newTrack codeOf
 computed =
     record {
       seeds-on = (record { answer = rw shaky-well; left = rw shaky-well }, record { answer = rw shaky-well; left = rw shaky-well });

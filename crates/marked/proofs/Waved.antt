@@ -30,6 +30,7 @@ use Rattle.offers.specs.Runs.{offered, newEvents, budgetAfter}
 use Rattle.offers.specs.Pieces.{valueBy, steps, points, offers, total}
 use Rattle.offers.specs.Waves.{triples, triplesOf, expand as expanded}
 use Rattle.writing.specs.Calls.{windowOf, keptEvents}
+use Rattle.cycles.specs.Due.{codeOf}
 use Rattle.state.specs.declared.Track.{Track}
 use Rattle.state.specs.Track.{newTrack, noNotes, noWaves, noSines, withTables, withTimepos, withCcFreq}
 use Rattle.state.specs.Calls.{newOf, answered, setTimepos, setCcFreq}
@@ -79,7 +80,7 @@ ended v n = withTimepos (wavy v) (pos n)
 
 module _ (v : List ℤ) (n : ℕ) (short : isShort v ≡ true) (e : okWave (wave v) ≡ true) (m : isTime (pos n) ≡ true) where
   wavy-well : okTrack (wavy v) ≡ true
-  unfolding okPlay okTables okNotes okWaves okSines counted all lone distinct absent newOf answered isTimebase inside newTrack
+  unfolding okPlay okTables okNotes okWaves okSines counted all lone distinct absent newOf answered isTimebase inside newTrack codeOf isTarget
   wavy-well = whole (wavy v) (unfold okPlay newOf answered isTimebase inside newTrack in track-play quick quick-well) (track-params quick quick-well) (track-layers quick quick-well) (track-options quick quick-well) (rw e) refl
 
   wave-allowed : refusal quick places noCycles (pos 7) (isShort v) (okWave (wave v)) true ≡ 0
@@ -87,7 +88,7 @@ module _ (v : List ℤ) (n : ℕ) (short : isShort v ≡ true) (e : okWave (wave
   wave-allowed = rw (quick-lent, short, e)
 
   wavy-is : setOnNoteWave quick places noCycles (pos 7) expand v .track ≡ wavy v
-  unfolding setOnNoteWave reserving cleared newOf answered isTimebase inside newTrack left
+  unfolding setOnNoteWave reserving cleared newOf answered isTimebase inside newTrack left codeOf isTarget
   wavy-is = ap (λ (k : ℕ). left k quick noCycles (answer 0 (wavy v) noCycles) .track) (unfold newOf answered isTimebase inside newTrack in wave-allowed)
 
   ended-play : okPlay (ended v n) ≡ true
@@ -131,7 +132,7 @@ abbrev Fifteen : Track → Type 0
 Fifteen a = WaveLeaves a 160 15 (outcome 15 (funds 1 160 120 0)) (flat numbersOf (control 7 0 0 ∷ control 7 1 1 ∷ control 7 2 2 ∷ control 7 3 3 ∷ control 7 4 4 ∷ control 7 5 5 ∷ control 7 6 6 ∷ control 7 7 7 ∷ control 7 8 8 ∷ control 7 9 9 ∷ control 7 10 10 ∷ control 7 11 11 ∷ control 7 12 12 ∷ control 7 13 13 ∷ control 7 14 14 ∷ []))
 
 written : Seven (ended three 7) × Fifteen (ended two 15)
-unfolding noteRefusal drawnAll leaves drawingsOf waveDrawing isList isTime okBudget isBytes sized inside all okEvents rowsOf takenBy windowOf keptEvents newEvents offered fresh offers points steps valueBy become total triples triplesOf expanded budgetAfter spent seedsAfter ruleOf eventOfOffer eventFor timeOf startOf kindOf clamped scaledFor topOf isController moved rangeIn spread curveOf writeOf freqFor optionOf newOf answered isTimebase newTrack zeros
+unfolding noteRefusal drawnAll leaves drawingsOf waveDrawing isList isTime okBudget isBytes sized inside all okEvents rowsOf takenBy windowOf keptEvents newEvents offered fresh offers points steps valueBy become total triples triplesOf expanded budgetAfter spent seedsAfter ruleOf eventOfOffer eventFor timeOf startOf kindOf clamped scaledFor topOf isController moved rangeIn spread curveOf writeOf freqFor optionOf newOf answered isTimebase newTrack zeros codeOf isTarget
 written =
     let w = ended-well three 7 refl three-ok three-ends in
     let x = ended-well two 15 refl two-ok two-ends in

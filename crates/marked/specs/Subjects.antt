@@ -21,7 +21,7 @@ use Rattle.params.specs.declared.ParamValue.{ParamValue}
 use Rattle.params.specs.Param as parameter
 use Rattle.params.specs.Calls.{setOnTime, calcOnTime}
 use Rattle.cycles.specs.declared.Cycle.{Cycle}
-use Rattle.tables.specs.Tables.{noCycle}
+use Rattle.cycles.specs.Rules.{noCycle}
 use Rattle.tables.specs.Reservations.{expand}
 use Rattle.writing.specs.declared.Outcome.{Outcome}
 use Rattle.state.specs.declared.Track.{Track}

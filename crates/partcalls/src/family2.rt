@@ -6,6 +6,7 @@ use desk::answered;
 use desk::with_budget;
 use events::zero_event;
 use script::answer::Answer;
+use script::answer::done;
 use script::answer::flag;
 use script::answer::one;
 use script::answer::refusal;
@@ -22,7 +23,8 @@ fn random(seed: i64, value: i64, width: i64) -> Answer {
     if !numbers::is_word(width) {
         return refusal(4);
     }
-    let b = Budget::new(as_u32(seed), 0);
+    let made = Budget::new(as_u32(seed), 0);
+    let b = made.budget;
     let r = budget::calc_rand_value(b, value, width);
     let after = r.budget;
     two(r.value, after.seed as i64)
@@ -60,12 +62,23 @@ fn steps(b: Budget) -> Answer {
     one(budget::safe_iteration_limit(b) as i64)
 }
 
+// 205: a new budget in the desk's place.
+fn new_budget(b: Budget, seed: i64, maximum: i64) -> Spent {
+    let made = Budget::new(as_u32(seed), as_u32(maximum));
+    if made.code != 0 {
+        return of_budget(refusal(made.code), b);
+    }
+    let after = made.budget;
+    of_budget(done(), after)
+}
+
 fn on_budget(op: i64, b: Budget, x: i64, y: i64, z: i64) -> Spent {
     match op {
         201 => of_budget(one(numbers::value_range(x, y, z)), b),
         202 => of_budget(random(x, y, z), b),
         203 => reserve(b, x, y),
         204 => of_budget(steps(b), b),
+        205 => new_budget(b, x, y),
         _ => of_budget(unknown(), b),
     }
 }

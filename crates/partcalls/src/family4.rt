@@ -1,6 +1,5 @@
 // Family 4: the note parameters. A call is handed the parameter that its first argument names, and the one that it
 // hands back takes its place.
-use counted::numbers_of;
 use desk::Called;
 use desk::Desk;
 use desk::answered;
@@ -75,16 +74,11 @@ fn reserved(op: i64, n: NoteParam, timepos: i64, values: &[i32]) -> ParamAnswer 
 
 // 418.
 fn cycle(start: i64, length: i64, timepos: i64, values: &[i32]) -> Answer {
-    let listed = numbers_of(values);
-    if listed.code != 0 {
-        return refusal(listed.code);
+    let made = OnCycleTime::new(start, as_i32(length), values);
+    if made.code != 0 {
+        return refusal(made.code);
     }
-    let list = listed.list;
-    let c = OnCycleTime {
-        start: start,
-        length: as_i32(length),
-        values: list,
-    };
+    let c = made.cycle;
     match c.calc(timepos) {
         CycleValue::Value(v) => two(1, widened(v)),
         CycleValue::Nothing => two(0, 0),

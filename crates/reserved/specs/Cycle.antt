@@ -7,6 +7,7 @@ use lib.IntN.{ℤ, pos, _-ℤ_}
 use lib.ListN.{getD}
 use lib.Signed.{ltZ}
 use Rattle.laws.specs.Integers.{cut}
+use Rattle.laws.specs.Answers.{Said}
 use Rattle.numbers.specs.Ranges.{isTime, isStoredTime, isLength}
 use Rattle.counted.specs.Numbers.{okNumbers}
 use Rattle.reserved.specs.declared.Since.{Since}
@@ -34,10 +35,6 @@ unfoldable pub cycleAt : OnCycleTime → ℤ → List ℤ
 cycleAt c t = cycleFrom c (sinceOf (c .start) t)
 
 -- 01, "What each place should look like": the paper's number and values for each case of the answer
-pub record Said : Type 0 where
-  pub number : ℕ
-  pub values : List ℤ
-
 abbrev pub said : CycleValue → Said
 said (Value v) = record { number = 0; values = v ∷ [] }
 said Nothing = record { number = 0; values = [] }

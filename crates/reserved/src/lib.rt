@@ -14,7 +14,7 @@ ghost use Rattle.reserved.specs.Cycle.{sinceOf, okCycle, said, cycleAt, 
 ghost use Rattle.reserved.specs.Curve.{curveAt};
 ghost use Rattle.reserved.specs.Reserve.{okValues, okReserve, idle, timed, noted, place, firstOr, cycleOf, fromSince};
 ghost use Rattle.reserved.specs.Reserve.{curveFrom, notesFrom};
-ghost use Rattle.reserved.specs.Setting.{cycleArgs, cycleFor};
+ghost use Rattle.reserved.specs.Setting.{cycleArgs, cycleFor, noCycleTime, newCycleTime};
 use counted::Got;
 use counted::LIST_LIMIT;
 use counted::Numbers;
@@ -64,6 +64,13 @@ pub struct OnCycleTime {
     pub values: Numbers,
 }
 
+// What `OnCycleTime::new` answers: 0 and the cycle, or the refusal's number and a cycle of zeros.
+#[repr(C)]
+pub struct CycleTimeAnswer {
+    pub code: u32,
+    pub cycle: OnCycleTime,
+}
+
 // What a cycle answers: its value at a time, that it has none then, or the number 4.
 pub enum CycleValue {
     Value(i32),
@@ -100,7 +107,49 @@ fn cycle_at(cycle: OnCycleTime, timepos: i64) -> CycleValue
     CycleValue::Value(value)
 }
 
+// A cycle of zeros, which has no value.
+fn no_cycle_time() -> OnCycleTime
+    ensures { λ r. ⌜ r ≡ noCycleTime ⌝ }
+{
+    let values = empty();
+    OnCycleTime {
+        start: 0,
+        length: 0,
+        values: values,
+    }
+}
+
 impl OnCycleTime {
+    // A cycle over time of its own. Refuses 3, 4, and then hands back a cycle of zeros.
+    pub fn new(start: i64, length: i32, values: &[i32]) -> CycleTimeAnswer
+        ensures { λ r. ⌜ r ≡ newCycleTime start length (now (values .entry)) ⌝ }
+    {
+        let none = no_cycle_time();
+        let listed = numbers_of(values);
+        if listed.code != 0 {
+            return CycleTimeAnswer {
+                code: 3,
+                cycle: none,
+            };
+        }
+        let list = listed.list;
+        let cycle = OnCycleTime {
+            start: start,
+            length: length,
+            values: list,
+        };
+        if !cycle_ok(cycle) {
+            return CycleTimeAnswer {
+                code: 4,
+                cycle: none,
+            };
+        }
+        CycleTimeAnswer {
+            code: 0,
+            cycle: cycle,
+        }
+    }
+
     // The value at `timepos`: none before the start, and none of a cycle without values or with a length of 0 or
     // less. Refuses 4.
     pub fn calc(self, timepos: i64) -> CycleValue

@@ -24,7 +24,7 @@ use Rattle.counted.proofs.Sizes.{time-mag}
 use Rattle.reserved.proofs.Cycles.{or-left, or-right}
 use Rattle.cycles.specs.declared.Cycle.{Cycle}
 use Rattle.cycles.specs.Due.{key}
-use Rattle.cycles.specs.Rules.{okCycle}
+use Rattle.cycles.specs.Rules.{noCycle, okCycle}
 use Rattle.tables.specs.declared.OnNoteValues.{OnNoteValues}
 use Rattle.tables.specs.declared.OnNoteWave.{OnNoteWave}
 use Rattle.tables.specs.declared.OnNoteSine.{OnNoteSine}
@@ -33,7 +33,7 @@ use Rattle.tables.specs.declared.WaveTable.{WaveTable}
 use Rattle.tables.specs.declared.SineTable.{SineTable}
 use Rattle.tables.specs.declared.CycleTable.{CycleTable}
 use Rattle.tables.specs.Reservations.{okValues, okWave, okSine}
-use Rattle.tables.specs.Tables.{noNote, noWave, noSine, noCycle, noteAt, waveAt, sineAt, cycleAt, notesLeft, wavesLeft, sinesLeft, cyclesLeft, notesWithout, wavesWithout, sinesWithout, cyclesWithout, notesWith, wavesWith, sinesWith, cyclesWith, okNotes, okWaves, okSines, okCycles, noteKeys, waveKeys, sineKeys, cycleKeys, lone}
+use Rattle.tables.specs.Tables.{noNote, noWave, noSine, noteAt, waveAt, sineAt, cycleAt, notesLeft, wavesLeft, sinesLeft, cyclesLeft, notesWithout, wavesWithout, sinesWithout, cyclesWithout, notesWith, wavesWith, sinesWith, cyclesWith, okNotes, okWaves, okSines, okCycles, noteKeys, waveKeys, sineKeys, cycleKeys, lone}
 use Rattle.tables.proofs.Keeping.{lone-taken, lone-note, lone-wave, lone-sine, lone-cycle}
 use Rattle.state.specs.declared.Track.{Track}
 use Rattle.state.specs.Track.{noCycles, cyclesOf, withTables}

@@ -20,11 +20,12 @@ use Rattle.numbers.specs.Ranges.{isLength}
 use Rattle.counted.specs.Numbers.{numbers, okNumbers}
 use Rattle.cycles.specs.declared.Cycle.{Cycle}
 use Rattle.cycles.specs.Due.{key}
+use Rattle.cycles.specs.Rules.{noCycle}
 use Rattle.tables.specs.declared.OnNoteValues.{OnNoteValues}
 use Rattle.tables.specs.declared.OnNoteWave.{OnNoteWave}
 use Rattle.tables.specs.declared.OnNoteSine.{OnNoteSine}
 use Rattle.tables.specs.Reservations.{okValues, okWave, okSine}
-use Rattle.tables.specs.Tables.{noNote, noWave, noSine, noCycle, noteAt, waveAt, sineAt, cycleAt, notesLeft, wavesLeft, sinesLeft, cyclesLeft, noteKeys, waveKeys, sineKeys, cycleKeys}
+use Rattle.tables.specs.Tables.{noNote, noWave, noSine, noteAt, waveAt, sineAt, cycleAt, notesLeft, wavesLeft, sinesLeft, cyclesLeft, noteKeys, waveKeys, sineKeys, cycleKeys}
 use Rattle.state.specs.declared.Track.{Track}
 use Rattle.state.specs.Track.{cyclesOf}
 use Rattle.state.proofs.Parts.{track-play}

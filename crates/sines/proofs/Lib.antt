@@ -4,3 +4,4 @@ pub mod Mixing
 pub mod Start
 pub mod Between
 pub mod Points
+pub mod Named

@@ -6,7 +6,7 @@ ghost use Prim.Native.Nat.{_+_, _*_, _<_, _≤_, _^_};
 ghost use lib.IntN.{natAbs};
 ghost use lib.Signed.{mag};
 ghost use Rattle.sines.specs.Table.{top, quarterTable, entry};
-ghost use Rattle.sines.specs.Kinds.{sineType};
+ghost use Rattle.sines.specs.Kinds.{kindSaid, kindOf};
 ghost use Rattle.sines.specs.Sine.{sinOf, liftOf, shareOf, nearest, roundAway, mixOf, sineOf};
 
 pub mod table;
@@ -21,7 +21,7 @@ pub enum SineType {
 impl SineType {
     // The kind that a number names: 1 and 2 the quarters, any other the full turn.
     pub fn from_i(v: i64) -> SineType
-        ensures { λ r. ⌜ r ≡ sineType v ⌝ }
+        ensures { λ r. ⌜ kindSaid r ≡ kindOf v ⌝ }
     {
         match v {
             1 => SineType::UpSine,

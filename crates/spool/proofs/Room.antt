@@ -36,7 +36,7 @@ use Rattle.reel.specs.Records.{recordAt}
 use Rattle.lines.specs.Lines.{eventsWord, bytesWord, overWord, seedWord, refusedWord, atWord, pairText, firstText, lineText, refusalText, doneText, newline, pageLong, printable, endText}
 use Rattle.carrying.specs.declared.State.{State}
 use Rattle.carrying.specs.declared.Carried.{Carried}
-use Rattle.carrying.specs.Carry.{isMaximum, makeTrack, makeBudget, moveTo, setFreqs, curveOf, setCycle, turnAnswer, turnList, Left, carriedAs, carried}
+use Rattle.carrying.specs.Carry.{makeTrack, makeBudget, moveTo, setFreqs, curveOf, setCycle, turnAnswer, turnList, Left, carriedAs, carried}
 use Rattle.spool.specs.declared.Run.{Run}
 use Rattle.spool.specs.Play.{Pass, pass, blankState, begun, refused, past, afterCall, stepOf, playFrom, ended, playOf, printed}
 
@@ -88,14 +88,10 @@ module _ (n : ℕ) where
   abbrev Kept : Left → Type 0
   Kept k = Holds n (k .done .state .count) (k .events)
 
-  one-holds : (t : Bool) (x y : Carried) (l : List ℤ) → Holds n (x .state .count) l → Holds n (y .state .count) l → Holds n (cond t x y .state .count) l
-  one-holds true x y l p q = p
-  one-holds false x y l p q = q
-
   carried-holds : (m : Mark) (s : State) (r : Record) (l : List ℤ) → Holds n (s .count) l → Kept (carriedAs m s r l)
   unfolding carriedAs makeTrack makeBudget moveTo setFreqs curveOf setCycle turnAnswer turnList
   carried-holds TK s r l h = h
-  carried-holds MX s r l h = one-holds (isMaximum (r .x)) _ _ l h h
+  carried-holds MX s r l h = h
   carried-holds TP s r l h = h
   carried-holds FQ s r l h = h
   carried-holds OT s r l h = curve-holds (curveOf s r l) h

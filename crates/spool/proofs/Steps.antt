@@ -15,9 +15,9 @@ use lib.ListN.{length}
 use borrow.Author.Tests.{eq-eqb, ne-eqb, eqb-true}
 use Rattle.laws.specs.Integers.{inside}
 use Rattle.numbers.specs.Limits.{listLimit}
-use Rattle.numbers.specs.Ranges.{isTimebase}
-use Rattle.budget.specs.declared.Budget.{Budget}
-use Rattle.budget.specs.Budgets.{unspent}
+use Rattle.numbers.specs.Ranges.{isTimebase, isBytes}
+use Rattle.budget.specs.declared.BudgetAnswer.{BudgetAnswer}
+use Rattle.budget.specs.Budgets.{unspent, newBudget}
 use Rattle.tables.specs.declared.CycleTable.{CycleTable}
 use Rattle.state.specs.declared.TrackAnswer.{TrackAnswer}
 use Rattle.state.specs.Track.{newTrack, noCycles}
@@ -85,9 +85,13 @@ no-track : newOf (pos 0) (pos 0) .track ≡ newTrack (pos 0) (pos 0)
 unfolding newOf answered isTimebase inside
 no-track = refl
 
-pub blank-by : {t : TrackAnswer} {c : CycleTable} {b : Budget} → t ≡ newOf (pos 0) (pos 0) → c ≡ noCycles → b ≡ unspent 0 0 → stateOf (t .track) (c .items) b 0 ≡ blankState
+no-bytes : newBudget 0 0 .budget ≡ unspent 0 0
+unfolding newBudget isBytes
+no-bytes = refl
+
+pub blank-by : {t : TrackAnswer} {c : CycleTable} {b : BudgetAnswer} → t ≡ newOf (pos 0) (pos 0) → c ≡ noCycles → b ≡ newBudget 0 0 → stateOf (t .track) (c .items) (b .budget) 0 ≡ blankState
 unfolding blankState
-blank-by p q r = rw (p, q, r, no-track)
+blank-by p q r = rw (p, q, r, no-track, no-bytes)
 
 pub begun-by : {s : State} → s ≡ blankState → record { code = 0; at = 0; index = 0; due = 0; state = s } ≡ begun
 begun-by e = rw e

@@ -33,7 +33,8 @@ fn blank_state() -> State
 {
     let none = Track::new(0, 0);
     let table = no_cycles();
-    let budget = Budget::new(0, 0);
+    let spent = Budget::new(0, 0);
+    let budget = spent.budget;
     let track = none.track;
     let cycles = table.items;
     State {

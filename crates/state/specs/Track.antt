@@ -15,7 +15,8 @@ use Rattle.tables.specs.declared.NoteTable.{NoteTable}
 use Rattle.tables.specs.declared.WaveTable.{WaveTable}
 use Rattle.tables.specs.declared.SineTable.{SineTable}
 use Rattle.tables.specs.declared.CycleTable.{CycleTable}
-use Rattle.tables.specs.Tables.{noNote, noWave, noSine, noCycle}
+use Rattle.cycles.specs.Rules.{noCycle}
+use Rattle.tables.specs.Tables.{noNote, noWave, noSine}
 use Rattle.state.specs.declared.Track.{Track}
 
 -- ---- nothing reserved

@@ -23,7 +23,6 @@ use tables::SineTable;
 use tables::WaveTable;
 use tables::cycles_ok;
 use tables::lone_ok;
-use tables::no_cycle;
 use tables::no_note;
 use tables::no_sine;
 use tables::no_wave;
@@ -101,7 +100,7 @@ pub fn no_sines() -> SineTable
 pub fn no_cycles() -> CycleTable
     ensures { λ r. ⌜ r ≡ noCycles ⌝ }
 {
-    let e = no_cycle();
+    let e = Cycle::none();
     CycleTable {
         count: 0,
         items: [e; PLACES],

@@ -7,7 +7,7 @@ use lib.ListN.{length, getD, set, take, length-map, length-take}
 use lib.Seq.{length-take-le}
 use Rattle.laws.proofs.Keys.{gathered, gathered-none, gathered-more, length-gathered, gathered-shown, map-more}
 use Rattle.tables.specs.declared.Keys.{Keys}
-use Rattle.tables.specs.Tables.{keysShown, keysWith}
+use Rattle.tables.specs.Tables.{keysShown, keysWith, keyLimit}
 
 module _ {A : Type 0} (f : A → ℕ) (table : List A) (before : List ℕ) (first count : ℕ) where
   pub record Gathering (items : List ℕ) (i : ℕ) : Type 0 where
@@ -50,11 +50,11 @@ few-keys f n l = rw length-map (omega (arith, length-take n l))
 
 -- what was gathered fits, and what counts of it
 pub record Room (a : Keys) (most : ℕ) (ks : List ℕ) : Type 0 where
-  pub long : length (a .items) ≡ 64
+  pub long : length (a .items) ≡ keyLimit
   pub few : a .count ≤ most
   pub shown : keysShown a ≡ ks
 
-pub further : (a : Keys) (m n : ℕ) (ks more : List ℕ) → Room a m ks → length more ≤ n → m + n ≤ 64 → Room (keysWith a more) (m + n) (ks ++ more)
+pub further : (a : Keys) (m n : ℕ) (ks more : List ℕ) → Room a m ks → length more ≤ n → m + n ≤ keyLimit → Room (keysWith a more) (m + n) (ks ++ more)
 further a m n ks more r h b =
     record {
       long = length-gathered (a .items) (a .count) more (omega (arith, r .long, r .few)) ∙ r .long;

@@ -18,7 +18,7 @@ use Rattle.laws.proofs.Lone.{distinct-last, distinct-without, gone, distinct-in
 use Rattle.cycles.specs.declared.Cycle.{Cycle}
 use Rattle.numbers.specs.Limits.{places}
 use Rattle.cycles.specs.Due.{key}
-use Rattle.cycles.specs.Rules.{okCycle, okTable}
+use Rattle.cycles.specs.Rules.{noCycle, okCycle, okTable}
 use Rattle.tables.specs.declared.OnNoteValues.{OnNoteValues}
 use Rattle.tables.specs.declared.OnNoteWave.{OnNoteWave}
 use Rattle.tables.specs.declared.OnNoteSine.{OnNoteSine}
@@ -26,7 +26,7 @@ use Rattle.tables.specs.declared.NoteTable.{NoteTable}
 use Rattle.tables.specs.declared.WaveTable.{WaveTable}
 use Rattle.tables.specs.declared.SineTable.{SineTable}
 use Rattle.tables.specs.declared.CycleTable.{CycleTable}
-use Rattle.tables.specs.Tables.{noNote, noWave, noSine, noCycle, noteAt, waveAt, sineAt, cycleAt, noteKeys, waveKeys, sineKeys, cycleKeys, notesLeft, wavesLeft, sinesLeft, cyclesLeft, notesWithout, wavesWithout, sinesWithout, cyclesWithout, notesWith, wavesWith, sinesWith, cyclesWith, okCycles, lone}
+use Rattle.tables.specs.Tables.{noNote, noWave, noSine, noteAt, waveAt, sineAt, cycleAt, noteKeys, waveKeys, sineKeys, cycleKeys, notesLeft, wavesLeft, sinesLeft, cyclesLeft, notesWithout, wavesWithout, sinesWithout, cyclesWithout, notesWith, wavesWith, sinesWith, cyclesWith, okCycles, lone}
 
 -- ---- the four tables
 

@@ -1,21 +1,23 @@
 -- 01, "Cycles" and "Numbers a caller may hand in": tables of sixteen. "Setting a target again moves it to the end": it is
 -- taken out, what stays closes up, and one more is put at the end.
-use mathlib.Core.Bool.{Bool}
+use mathlib.Core.Bool.{Bool, cond}
 use mathlib.Core.List.{List, [], _∷_, _++_, map}
-use Prim.Native.Nat.{ℕ, _+_}
+use Prim.Native.Nat.{ℕ, _+_, _*_}
 use lib.Dec.{eqb}
-use lib.IntN.{pos}
+use lib.IntN.{ℤ, pos}
 use lib.ListN.{length, take, drop}
 use Rattle.laws.specs.Lists.{counted, without, putFirst}
 use Rattle.laws.specs.Keys.{distinct}
 use Rattle.numbers.specs.Limits.{places}
+use Rattle.numbers.specs.Ranges.{isTarget}
 use Rattle.counted.specs.Numbers.{none}
 use Rattle.cycles.specs.declared.Cycle.{Cycle}
 use Rattle.cycles.specs.Due.{key}
-use Rattle.cycles.specs.Rules.{okCycle}
+use Rattle.cycles.specs.Rules.{noCycle, okCycle}
 use Rattle.tables.specs.declared.OnNoteValues.{OnNoteValues}
 use Rattle.tables.specs.declared.OnNoteWave.{OnNoteWave}
 use Rattle.tables.specs.declared.OnNoteSine.{OnNoteSine}
+use Rattle.tables.specs.declared.SineAnswer.{SineAnswer}
 use Rattle.tables.specs.declared.NoteTable.{NoteTable}
 use Rattle.tables.specs.declared.WaveTable.{WaveTable}
 use Rattle.tables.specs.declared.SineTable.{SineTable}
@@ -32,9 +34,6 @@ noWave = record { target = pos 0; mode = 0; values = none }
 
 abbrev pub noSine : OnNoteSine
 noSine = record { target = pos 0; shape = 0; low = pos 0; high = pos 0; length = pos 0; times = pos 0 }
-
-abbrev pub noCycle : Cycle
-noCycle = record { target = pos 0; length = pos 0; next = pos 0; index = 0; values = none }
 
 -- ---- lists for notes
 unfoldable pub noteAt : ℕ → OnNoteValues → Bool
@@ -102,6 +101,16 @@ sinesWith t e = record { count = t .count + 1; items = putFirst noSine (t .count
 unfoldable pub okSines : SineTable → Bool
 okSines t = counted (t .count) places okSine (t .items)
 
+-- a sine of its own; 2 and then 4 give a sine of zeros
+abbrev pub sineOf : ℤ → ℕ → ℤ → ℤ → ℤ → ℤ → OnNoteSine
+sineOf t s l h n k = record { target = t; shape = s; low = l; high = h; length = n; times = k }
+
+unfoldable pub newSine : ℤ → ℕ → ℤ → ℤ → ℤ → ℤ → SineAnswer
+newSine t s l h n k =
+    cond (isTarget t)
+    (cond (okSine (sineOf t s l h n k)) (record { code = 0; sine = sineOf t s l h n k }) (record { code = 4; sine = noSine }))
+    (record { code = 2; sine = noSine })
+
 abbrev pub sineKeys : SineTable → List ℕ
 sineKeys t = map (λ (e : OnNoteSine). key (e .target)) (take (t .count) (t .items))
 
@@ -129,6 +138,10 @@ abbrev pub cycleKeys : CycleTable → List ℕ
 cycleKeys t = map (λ (e : Cycle). key (e .target)) (take (t .count) (t .items))
 
 -- ---- all four
+-- how many keys there may be: four tables of sixteen
+abbrev pub keyLimit : ℕ
+keyLimit = 4 * places
+
 abbrev pub keysShown : Keys → List ℕ
 keysShown a = take (a .count) (a .items)
 

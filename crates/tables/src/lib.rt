@@ -10,14 +10,14 @@ ghost use Rattle.numbers.specs.Limits.{places, listLimit};
 ghost use Rattle.counted.specs.Numbers.{shown};
 ghost use Rattle.counted.specs.Curves.{triples};
 ghost use Rattle.tables.specs.Reservations.{forward, okValues, okWave, okSine};
-ghost use Rattle.tables.specs.Tables.{noNote, noteAt, notesCleared, notesWithout, notesWith, okNotes, noWave, waveAt, wavesCleared, wavesWithout, wavesWith, okWaves, noSine, sineAt, sinesCleared, sinesWithout, sinesWith, okSines, noCycle, cycleAt, cyclesCleared, cyclesWithout, cyclesWith, okCycles, noteKeys, waveKeys, sineKeys, cycleKeys, keysShown, keysWith, lone};
+ghost use Rattle.tables.specs.Tables.{noNote, noteAt, notesCleared, notesWithout, notesWith, okNotes, noWave, waveAt, wavesCleared, wavesWithout, wavesWith, okWaves, noSine, sineAt, sinesCleared, sinesWithout, sinesWith, okSines, newSine, cycleAt, cyclesCleared, cyclesWithout, cyclesWith, okCycles, noteKeys, waveKeys, sineKeys, cycleKeys, keysShown, keysWith, keyLimit, lone};
 use counted::Numbers;
 use cycles::Cycle;
 use cycles::PLACES;
 use cycles::key_of;
 
 // How many reservations there may be in all.
-const KEYS: usize = 64;
+const KEYS: usize = PLACES * 4;
 
 // What a wave does with its lengths at a note.
 pub const NORMAL: u32 = 0;
@@ -52,6 +52,13 @@ pub struct OnNoteSine {
     pub high: i32,
     pub length: i32,
     pub times: i32,
+}
+
+// What `OnNoteSine::new` answers: 0 and the sine, or the refusal's number and a sine of zeros.
+#[repr(C)]
+pub struct SineAnswer {
+    pub code: u32,
+    pub sine: OnNoteSine,
 }
 
 // Whether a list for notes may be stored: its position is 0 to its count.
@@ -328,6 +335,39 @@ pub fn no_sine() -> OnNoteSine
     }
 }
 
+impl OnNoteSine {
+    // A sine for a target's notes. Refuses 2, 4, and then hands back a sine of zeros.
+    pub fn new(target: i32, shape: u32, low: i32, high: i32, length: i32, times: i32) -> SineAnswer
+        ensures { λ r. ⌜ r ≡ newSine target shape low high length times ⌝ }
+    {
+        let none = no_sine();
+        if !numbers::is_target(target) {
+            return SineAnswer {
+                code: 2,
+                sine: none,
+            };
+        }
+        let sine = OnNoteSine {
+            target: target,
+            shape: shape,
+            low: low,
+            high: high,
+            length: length,
+            times: times,
+        };
+        if !sine_ok(sine) {
+            return SineAnswer {
+                code: 4,
+                sine: none,
+            };
+        }
+        SineAnswer {
+            code: 0,
+            sine: sine,
+        }
+    }
+}
+
 // A table of sines for notes.
 #[repr(C)]
 pub struct SineTable {
@@ -419,20 +459,6 @@ pub fn sines_ok(table: SineTable) -> bool
     true
 }
 
-// What an unused place of a table of cycles holds.
-pub fn no_cycle() -> Cycle
-    ensures { λ r. ⌜ r ≡ noCycle ⌝ }
-{
-    let values = counted::empty();
-    Cycle {
-        target: 0,
-        length: 0,
-        next: 0,
-        index: 0,
-        values: values,
-    }
-}
-
 // A table of cycles.
 #[repr(C)]
 pub struct CycleTable {
@@ -456,7 +482,7 @@ fn clear_cycles(table: CycleTable, from: usize) -> CycleTable
     let mut items = table.items;
     let mut i = from;
     while i < count {
-        items[i] = no_cycle();
+        items[i] = Cycle::none();
         i += 1;
     }
     CycleTable {
@@ -532,7 +558,7 @@ pub struct Keys {
 
 // Whether no key behind place `i` is that at `i`.
 fn key_alone(keys: Keys, i: usize) -> bool
-    requires { ⌜ (i < keys .count) × (keys .count ≤ 64) ⌝ }
+    requires { ⌜ (i < keys .count) × (keys .count ≤ keyLimit) ⌝ }
     ensures { λ r. ⌜ r ≡ absent (getD (keys .items) i 0) (drop (i + 1) (keysShown keys)) ⌝ }
 {
     let n = keys.count;
@@ -550,7 +576,7 @@ fn key_alone(keys: Keys, i: usize) -> bool
 
 // Whether each key stands once.
 fn keys_alone(keys: Keys) -> bool
-    requires { ⌜ keys .count ≤ 64 ⌝ }
+    requires { ⌜ keys .count ≤ keyLimit ⌝ }
     ensures { λ r. ⌜ r ≡ distinct (keysShown keys) ⌝ }
 {
     let n = keys.count;
@@ -566,7 +592,7 @@ fn keys_alone(keys: Keys) -> bool
 
 // The keys gathered so far, with those of a table of lists for notes behind them.
 fn note_keys(table: NoteTable, keys: Keys) -> Keys
-    requires { ⌜ (table .count ≤ places) × (keys .count + table .count ≤ 64) ⌝ }
+    requires { ⌜ (table .count ≤ places) × (keys .count + table .count ≤ keyLimit) ⌝ }
     ensures { λ r. ⌜ r ≡ keysWith keys (noteKeys table) ⌝ }
 {
     let count = table.count;
@@ -586,7 +612,7 @@ fn note_keys(table: NoteTable, keys: Keys) -> Keys
 
 // The keys gathered so far, with those of a table of waves for notes behind them.
 fn wave_keys(table: WaveTable, keys: Keys) -> Keys
-    requires { ⌜ (table .count ≤ places) × (keys .count + table .count ≤ 64) ⌝ }
+    requires { ⌜ (table .count ≤ places) × (keys .count + table .count ≤ keyLimit) ⌝ }
     ensures { λ r. ⌜ r ≡ keysWith keys (waveKeys table) ⌝ }
 {
     let count = table.count;
@@ -606,7 +632,7 @@ fn wave_keys(table: WaveTable, keys: Keys) -> Keys
 
 // The keys gathered so far, with those of a table of sines for notes behind them.
 fn sine_keys(table: SineTable, keys: Keys) -> Keys
-    requires { ⌜ (table .count ≤ places) × (keys .count + table .count ≤ 64) ⌝ }
+    requires { ⌜ (table .count ≤ places) × (keys .count + table .count ≤ keyLimit) ⌝ }
     ensures { λ r. ⌜ r ≡ keysWith keys (sineKeys table) ⌝ }
 {
     let count = table.count;
@@ -626,7 +652,7 @@ fn sine_keys(table: SineTable, keys: Keys) -> Keys
 
 // The keys gathered so far, with those of a table of cycles behind them.
 fn cycle_keys(table: CycleTable, keys: Keys) -> Keys
-    requires { ⌜ (table .count ≤ places) × (keys .count + table .count ≤ 64) ⌝ }
+    requires { ⌜ (table .count ≤ places) × (keys .count + table .count ≤ keyLimit) ⌝ }
     ensures { λ r. ⌜ r ≡ keysWith keys (cycleKeys table) ⌝ }
 {
     let count = table.count;

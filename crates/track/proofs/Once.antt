@@ -18,7 +18,8 @@ use Rattle.budget.specs.declared.Budget.{Budget}
 use Rattle.cycles.specs.declared.Cycle.{Cycle}
 use Rattle.reserved.specs.declared.CycleValue.{CycleValue}
 use Rattle.reserved.specs.declared.CycleValue.the-variants.{Value, Nothing, Refused}
-use Rattle.reserved.specs.Cycle.{Said, said}
+use Rattle.laws.specs.Answers.{Said}
+use Rattle.reserved.specs.Cycle.{said}
 use Rattle.reserved.specs.Reserve.{firstOr}
 use Rattle.writing.specs.declared.Outcome.{Outcome}
 use Rattle.state.specs.declared.TrackAnswer.{TrackAnswer}

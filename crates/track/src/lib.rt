@@ -74,6 +74,7 @@ pub use reserving::set_on_note_sine;
 pub use reserving::set_on_note_wave;
 pub use reserving::set_pb_on_note_wave;
 pub use tables::OnNoteSine;
+pub use tables::SineAnswer;
 
 // ---- what is written at the track's time, at its notes and at its cycles'
 pub use cycling::Cycled;
@@ -97,8 +98,12 @@ pub use notes::normalize;
 pub use notes::split_note_off;
 pub use sorting::events_sort;
 
+// ---- a number in a range
+pub use numbers::value_range;
+
 // ---- records of their own, with their methods
 pub use budget::Budget;
+pub use budget::BudgetAnswer;
 pub use counted::Numbers;
 pub use cycles::Cycle;
 pub use events::Event;
@@ -109,6 +114,7 @@ pub use params::NoteParam;
 pub use params::ParamAnswer;
 pub use params::ParamValue;
 pub use params::Told;
+pub use reserved::CycleTimeAnswer;
 pub use reserved::CycleValue;
 pub use reserved::OnCycleTime;
 pub use sines::SineType;

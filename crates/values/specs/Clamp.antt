@@ -9,6 +9,9 @@ use Rattle.numbers.specs.Ranges.{isController}
 abbrev pub bendSmall : ℤ
 bendSmall = pos 128
 
+abbrev pub bendWide : ℤ
+bendWide = pos 129
+
 -- the greatest value of a controller, and of a bend
 abbrev pub controllerTop : ℕ
 controllerTop = 127
@@ -19,9 +22,11 @@ bendTop = 32639
 unfoldable pub topOf : ℤ → ℕ
 topOf target = cond (isController target) controllerTop bendTop
 
--- a value as its target's event counts it
+-- a value as its target's event counts it; a code that is no target's, which every call refuses by 2, counts none
 unfoldable pub scaledFor : ℤ → ℤ → ℤ
-scaledFor target v = cond (isController target) v (cond (eqZ target bendSmall) (v *ℤ pos 128) (v +ℤ pos 8192))
+scaledFor target v =
+    cond (isController target) v
+    (cond (eqZ target bendSmall) (v *ℤ pos 128) (cond (eqZ target bendWide) (v +ℤ pos 8192) (pos 0)))
 
 unfoldable pub clamped : ℤ → ℤ → ℤ
 unfolding topOf scaledFor

@@ -104,7 +104,7 @@ fn raised(v: i64) -> i64
     v + 8192
 }
 
-// The value that a target's event gets.
+// The value that a target's event gets; a code that is no target's gets 0.
 fn clamp(target: i32, v: i64) -> i64
     requires { ⌜ mag v < 2 ^ 40 ⌝ }
     ensures { λ r. ⌜ r ≡ clamped target v ⌝ }
@@ -112,7 +112,8 @@ fn clamp(target: i32, v: i64) -> i64
     match target {
         0..=127 => numbers::value_range(0, v, 127),
         128 => numbers::value_range(0, scaled(v), 32639),
-        _ => numbers::value_range(0, raised(v), 32639),
+        129 => numbers::value_range(0, raised(v), 32639),
+        _ => 0,
     }
 }
 

@@ -8,14 +8,14 @@ use borrow.Author.Tests.{le-leb, leb-true, leb-false}
 use lib.Dec.{leb}
 use lib.IntN.{ℤ, pos, negsuc}
 use lib.ListN.{take}
-use Rattle.laws.specs.Integers.{inside}
+use Rattle.laws.specs.Integers.{inside, cut}
 use Rattle.laws.specs.Lists.{all, counted}
 use Rattle.laws.specs.Keys.{distinct}
 use Rattle.laws.proofs.Ranges.{left, right}
 use Rattle.laws.proofs.Lone.{distinct-first, distinct-last}
 use Rattle.numbers.specs.Limits.{places}
 use Rattle.numbers.specs.Ranges.{isController, isTarget}
-use Rattle.cycles.specs.Due.{key}
+use Rattle.cycles.specs.Due.{codeOf, key}
 use Rattle.writing.specs.Targets.{keyOf}
 use Rattle.writing.proofs.Every.{Each, each-append}
 use Rattle.tables.specs.declared.OnNoteWave.{OnNoteWave}
@@ -44,17 +44,24 @@ map-both f g [] = refl
 map-both {C} f g (x ∷ l) = ap (λ (y : List C). g (f x) ∷ y) (map-both f g l)
 
 -- ---- a target's two keys are one
-aimed-key : (z : ℤ) → isTarget z ≡ true → keyOf z ≡ pos (key z)
+aimed : (z : ℤ) → isTarget z ≡ true → min (cut z) 128 ≡ key z
+unfolding codeOf
+aimed z e = rw e
+
+aimed-code : (z : ℤ) → isTarget z ≡ true → keyOf z ≡ pos (min (cut z) 128)
 unfolding isTarget isController inside
-aimed-key (pos n) e = ap (λ (t : Bool). cond (t && leb n 127) (pos n) (pos 128)) (le-leb 0 n (omega arith)) ∙ go (leb n 127) refl
+aimed-code (pos n) e = ap (λ (t : Bool). cond (t && leb n 127) (pos n) (pos 128)) (le-leb 0 n (omega arith)) ∙ go (leb n 127) refl
   where
     go : (t : Bool) → leb n 127 ≡ t → cond t (pos n) (pos 128) ≡ pos (min n 128)
     go true q = let h = leb-true n 127 q in ap pos (omega arith)
     go false q = let h = leb-false n 127 q in ap pos (omega arith)
-aimed-key (negsuc n) e = absurd (true-is e)
+aimed-code (negsuc n) e = absurd (true-is e)
   where
     true-is : _≡_ {A = Bool} false true → ⊥
     true-is q = let z : _≡_ {A = ℕ} 0 1 = cc in omega arith
+
+aimed-key : (z : ℤ) → isTarget z ≡ true → keyOf z ≡ pos (key z)
+aimed-key z e = aimed-code z e ∙ ap pos (aimed z e)
 
 module _ (a : Track) (n : ℕ) where
   wave-placed : (e : OnNoteWave) → okWave e ≡ true → Placed (waveDrawing a n e)

@@ -1,10 +1,11 @@
 -- `dollavir_sine_type` widens the number and says the kind that it names.
 use mathlib.Core.Path.{ap, _∙_}
 use mir.Syntax.{w64}
+use mir.Val.{toZ, ofZ}
 use mir.Facts.{toZ-ofZ}
 use borrow.Author.Needs.{needs, sfits-of}
-use Rattle.sines.specs.Kinds.{sineType}
-use Rattle.ctrack.specs.Kinds.{shapeOf}
+use Rattle.sines.specs.Kinds.{numberOf, sineType}
+use Rattle.sines.proofs.Named.{kind-told}
 use Rattle.ctrack.proofs.dollavir_sine_type.Statement.{statement}
 use Rattle.ctrack.proofs.dollavir_sine_type.Tie as tie
 
@@ -20,7 +21,7 @@ shape-of-requires c κs = search needs
 returns : tie.Need-returns
 returns c =
     let w = c .before .before in
-    c .shape-of .ensures ∙ ap shapeOf (c .before .from-i .ensures
+    c .shape-of .ensures ∙ ap numberOf (kind-told (toZ w64 (ofZ w64 (w .widened .result))) (c .before .from-i .result) (c .before .from-i .ensures)
     ∙ ap sineType (toZ-ofZ {w = w64} (sfits-of (w .widened .ok)) ∙ (rw (toZ-ofZ (w .before .fits .v)) at (w .widened .ensures .0))))
 
 pub dollavir-sine-type-spec : {M : Type 1} → statement M

@@ -1,53 +1,68 @@
--- `cycles::key_of`: below 0, above 127 and between.
-use mathlib.Core.Path.{_≡_, sym, ap, _∙_}
+-- `cycles::key_of`: the numbers of the controllers, the two bends, and the codes that are no target's below and above them.
+use mathlib.Core.Path.{_≡_, refl}
 use mathlib.Core.Bool.{true, false, true≢false}
 use Prim.Native.Nat.{_<_}
 use native.Mathlib.Omega.{arith}
-use borrow.Author.Tests.{leb-true, leb-false}
+use borrow.Author.Tests.{ltb-true, ltb-false, le-leb, lt-leb}
 use lib.Dec.{T}
 use lib.IntN.{ℤ, pos, negsuc, natAbs}
-use lib.Signed.{leZ, nonNeg}
+use lib.Signed.{ltZ, nonNeg}
 use mir.Facts.{toZ-ofZ}
-use Rattle.laws.proofs.Signed.{le-back-l}
-use Rattle.cycles.specs.Due.{key}
+use Rattle.laws.specs.Integers.{inside}
+use Rattle.laws.proofs.Signed.{lt-back-l}
+use Rattle.numbers.specs.Ranges.{isTarget}
+use Rattle.cycles.specs.Due.{codeOf, key}
 use Rattle.cycles.proofs.key_of.Statement.{statement}
 use Rattle.cycles.proofs.key_of.Tie as tie
 
-low : (z : ℤ) → leZ z (pos 0) ≡ true → 0 ≡ key z
-low (pos n) e = omega (arith, leb-true n 0 e)
-low (negsuc n) e = omega arith
+controller : (z : ℤ) → ltZ z (pos 0) ≡ false → ltZ z (pos 128) ≡ true → T (nonNeg z) × (natAbs z ≡ key z) × (natAbs z < 128)
+unfolding codeOf isTarget inside
+controller (pos n) p q = let h = ltb-true n 128 q in (tt, rw (le-leb 0 n (omega arith), le-leb n 129 (omega arith)) (omega arith), h)
+controller (negsuc n) p q = absurd (true≢false p)
 
-high : (z : ℤ) → leZ (pos 128) z ≡ true → 128 ≡ key z
-high (pos n) e = omega (arith, leb-true 128 n e)
-high (negsuc n) e = absurd (true≢false (sym e))
+bend : (z : ℤ) → ltZ z (pos 128) ≡ false → ltZ z (pos 130) ≡ true → 128 ≡ key z
+unfolding codeOf isTarget inside
+bend (pos n) p q =
+    let h = ltb-false n 128 p in
+    let l = ltb-true n 130 q in
+    rw (le-leb 0 n (omega arith), le-leb n 129 (omega arith)) (omega arith)
+bend (negsuc n) p q = absurd (true≢false p)
 
-middle : (z : ℤ) → leZ z (pos 0) ≡ false → leZ (pos 128) z ≡ false → T (nonNeg z) × (natAbs z ≡ key z) × (natAbs z < 128)
-middle (pos n) e h = (tt, omega (arith, leb-false 128 n h), leb-false 128 n h)
-middle (negsuc n) e h = absurd (true≢false e)
+below : (z : ℤ) → ltZ z (pos 0) ≡ true → 0 ≡ key z
+unfolding codeOf isTarget inside
+below (pos n) p = let h = ltb-true n 0 p in absurd (omega arith)
+below (negsuc n) p = refl
 
-returns : tie.Need-returns
-returns c = low (c .before .args .target) (le-back-l (pos 0) (c .before .fits .target) (c .if1 .taken))
+above : (z : ℤ) → ltZ z (pos 130) ≡ false → 0 ≡ key z
+unfolding codeOf isTarget inside
+above (pos n) p = let h = ltb-false n 130 p in rw (le-leb 0 n (omega arith), lt-leb n 129 (omega arith))
+above (negsuc n) p = absurd (true≢false p)
 
-returns-2 : tie.Need-returns-2
-returns-2 c =
-    let b = c .before .before in
-    high (b .args .target) (sym (ap (leZ (pos 128)) (toZ-ofZ (b .fits .target))) ∙ c .if2 .taken)
-
--- past both tests
-module _ (c : tie.Else2) where
+-- from 0 to 127
+module _ (c : tie.Then2) where
   abbrev at : tie.Start
   at = c .before .before
 
-  between : T (nonNeg (at .args .target)) × (natAbs (at .args .target) ≡ key (at .args .target)) × (natAbs (at .args .target) < 128)
-  between =
-      middle (at .args .target) (le-back-l (pos 0) (at .fits .target) (c .before .if1 .left))
-      (sym (ap (leZ (pos 128)) (toZ-ofZ (at .fits .target))) ∙ c .if2 .left)
+  number : T (nonNeg (at .args .target)) × (natAbs (at .args .target) ≡ key (at .args .target)) × (natAbs (at .args .target) < 128)
+  number = controller (at .args .target) (lt-back-l (pos 0) (at .fits .target) (c .before .if1 .left)) (lt-back-l (pos 128) (at .fits .target) (c .if2 .taken))
 
 cast-result : tie.Need-cast-result
-cast-result c = let m = between c in rw (toZ-ofZ (at c .fits .target)) (m .0, omega (arith, m .2))
+cast-result c = let m = number c in rw (toZ-ofZ (at c .fits .target)) (m .0, omega (arith, m .2))
+
+returns : tie.Need-returns
+returns c = rw (toZ-ofZ (at c .fits .target)) (number c .1)
+
+returns-2 : tie.Need-returns-2
+returns-2 c =
+    let s = c .before .before .before in
+    let f = s .fits .target in
+    bend (s .args .target) (lt-back-l (pos 128) f (c .before .if2 .left)) (lt-back-l (pos 130) f (c .if3 .taken))
 
 returns-3 : tie.Need-returns-3
-returns-3 c = rw (toZ-ofZ (at c .fits .target)) (between c .1)
+returns-3 c = let s = c .before in below (s .args .target) (lt-back-l (pos 0) (s .fits .target) (c .if1 .taken))
+
+returns-4 : tie.Need-returns-4
+returns-4 c = let s = c .before .before .before in above (s .args .target) (lt-back-l (pos 130) (s .fits .target) (c .if3 .left))
 
 pub key-of-spec : {M : Type 1} → statement M
-key-of-spec = tie.close (tie.spec returns returns-2 cast-result returns-3)
+key-of-spec = tie.close (tie.spec cast-result returns returns-2 returns-3 returns-4)

@@ -5,12 +5,14 @@ use native.Mathlib.Omega.{arith}
 use lib.IntN.{pos}
 use lib.ListN.{length}
 use mir.Syntax.{w64}
+use mir.Val.{toZ}
 use mir.Facts.{toZ-ofZ, toZ-pos}
 use borrow.Author.Needs.{needs}
 use Rattle.laws.proofs.Tests.{both}
 use Rattle.eventlist.specs.Rows.{rowsOf}
 use Rattle.sines.specs.declared.SineType.{SineType}
 use Rattle.sines.specs.Kinds.{sineType}
+use Rattle.sines.proofs.Named.{kind-told}
 use Rattle.tables.specs.declared.OnNoteSine.{OnNoteSine}
 use Rattle.tables.proofs.Sines.{sine-low, sine-high, sine-length, sine-times}
 use Rattle.writing.specs.Sines.{sinePieces}
@@ -49,7 +51,7 @@ written : (c : tie.After-write-of) → c .write-of .result ≡ drawWrite (draw (
 written c = let a = s (c .before .before) in c .write-of .ensures ∙ ap (writeOf (a .args .track)) (toZ-ofZ (a .fits .target))
 
 shaped : (c : tie.After-from-i) → c .from-i .result ≡ sineType (pos (s (c .before .before .before) .args .shape))
-shaped c = let a = s (c .before .before .before) in c .from-i .ensures ∙ ap sineType (toZ-pos w64 {n = a .args .shape} (omega (arith, a .fits .shape)))
+shaped c = let a = s (c .before .before .before) in kind-told (toZ w64 (a .args .shape)) (c .from-i .result) (c .from-i .ensures) ∙ ap sineType (toZ-pos w64 {n = a .args .shape} (omega (arith, a .fits .shape)))
 
 track-ok-requires : tie.Need-track-ok-requires
 track-ok-requires c κs = search needs

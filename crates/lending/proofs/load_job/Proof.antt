@@ -3,11 +3,11 @@ use borrow.Author.Needs.{needs}
 use Rattle.lending.proofs.load_job.Statement.{statement}
 use Rattle.lending.proofs.load_job.Tie as tie
 
-no-cycle-requires : tie.Need-no-cycle-requires
-no-cycle-requires c κs = search needs
+none-requires : tie.Need-none-requires
+none-requires c κs = search needs
 
 returns : tie.Need-returns
-returns c = simp (c .no-cycle .ensures)
+returns c = simp (c .none .ensures)
 
 pub load-job-spec : {M : Type 1} → statement M
-load-job-spec = tie.close (tie.spec no-cycle-requires returns)
+load-job-spec = tie.close (tie.spec none-requires returns)

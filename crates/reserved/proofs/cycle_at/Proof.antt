@@ -15,7 +15,8 @@ use borrow.Author.Needs.{needs, sfits-of}
 use Rattle.laws.specs.Integers.{cut}
 use Rattle.numbers.specs.Limits.{listLimit}
 use Rattle.counted.proofs.Counted.{numbers-count}
-use Rattle.reserved.specs.Cycle.{sinceOf, Said}
+use Rattle.laws.specs.Answers.{Said}
+use Rattle.reserved.specs.Cycle.{sinceOf}
 use Rattle.reserved.proofs.Cycles.{or-left, or-right, above-zero, cycle-start, cycle-values, not-begun, no-value, a-value}
 use Rattle.reserved.proofs.cycle_at.Statement.{statement}
 use Rattle.reserved.proofs.cycle_at.Tie as tie

@@ -11,7 +11,8 @@ use mir.Facts.{toZ-ofZ}
 use borrow.Author.Needs.{needs, sfits-of}
 use Rattle.reserved.specs.declared.CycleValue.{CycleValue}
 use Rattle.reserved.specs.declared.CycleValue.the-variants.{Value, Nothing, Refused}
-use Rattle.reserved.specs.Cycle.{Said, said, calcOf}
+use Rattle.laws.specs.Answers.{Said}
+use Rattle.reserved.specs.Cycle.{said, calcOf}
 use Rattle.reserved.specs.Reserve.{cycleOf, firstOr}
 use Rattle.reserved.proofs.CycleValue.{the-type}
 use Rattle.reserved.proofs.cycle_value.Statement.{statement}

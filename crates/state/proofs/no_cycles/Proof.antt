@@ -3,11 +3,11 @@ use borrow.Author.Needs.{needs}
 use Rattle.state.proofs.no_cycles.Statement.{statement}
 use Rattle.state.proofs.no_cycles.Tie as tie
 
-no-cycle-requires : tie.Need-no-cycle-requires
-no-cycle-requires c κs = search needs
+none-requires : tie.Need-none-requires
+none-requires c κs = search needs
 
 returns : tie.Need-returns
-returns c = simp (c .no-cycle .ensures)
+returns c = simp (c .none .ensures)
 
 pub no-cycles-spec : {M : Type 1} → statement M
-no-cycles-spec = tie.close (tie.spec no-cycle-requires returns)
+no-cycles-spec = tie.close (tie.spec none-requires returns)

@@ -8,7 +8,7 @@ use lib.ListN.{length}
 use Rattle.laws.proofs.Taking.{Clearing, clear-none}
 use Rattle.laws.proofs.Reading.{length-told}
 use Rattle.cycles.specs.declared.Cycle.{Cycle}
-use Rattle.tables.specs.Tables.{noCycle}
+use Rattle.cycles.specs.Rules.{noCycle}
 use Rattle.tables.proofs.Closing.{clear-one, all-clear}
 use Rattle.tables.proofs.clear_cycles.Statement.{statement}
 use Rattle.tables.proofs.clear_cycles.Tie as tie
@@ -26,8 +26,8 @@ loop-holds c =
     let m : length (t .items) ≡ 16 = search (needs, length-told) in
     clear-none (λ (x : List Cycle). x) noCycle (t .items) (t .count) (s .args .from) (s .pre .0) (omega arith)
 
-no-cycle-requires : tie.Need-no-cycle-requires Inv-loop μ-loop
-no-cycle-requires c κs = search needs
+none-requires : tie.Need-none-requires Inv-loop μ-loop
+none-requires c κs = search needs
 
 mul-items : tie.Need-mul-items Inv-loop μ-loop
 mul-items c = search needs
@@ -47,7 +47,7 @@ loop-again c =
     let s = l .before .before in
     let t = s .args .table in
     let m : length (t .items) ≡ 16 = search (needs, length-told) in
-    clear-one noCycle (t .items) (l .loop .items) (t .count) (s .args .from) (l .loop .i) (l .loop .inv) (omega arith) (search needs) (c .no-cycle .result) (c .no-cycle .ensures)
+    clear-one noCycle (t .items) (l .loop .items) (t .count) (s .args .from) (l .loop .i) (l .loop .inv) (omega arith) (search needs) (c .none .result) (c .none .ensures)
 
 returns : tie.Need-returns Inv-loop μ-loop
 returns c =
@@ -65,7 +65,7 @@ clear-cycles-spec =
     Inv-loop
     μ-loop
     loop-holds
-    no-cycle-requires
+    none-requires
     mul-items
     array-set-from-items
     add-i

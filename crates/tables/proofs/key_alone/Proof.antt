@@ -10,6 +10,7 @@ use lib.ListN.{length, getD, take}
 use lib.Seq.{length-take-le, getD-take}
 use Rattle.laws.specs.Keys.{absent}
 use Rattle.laws.proofs.Keys.{From, passed-from, failed-from, ended-from}
+use Rattle.tables.specs.Tables.{keyLimit}
 use Rattle.tables.proofs.key_alone.Statement.{statement}
 use Rattle.tables.proofs.key_alone.Tie as tie
 
@@ -48,7 +49,7 @@ returns c =
     let s = l .before .before in
     let a = s .args in
     let k = getD (a .t1 .items) (a .i) 0 in
-    let m : length (a .t1 .items) ≡ 64 = search needs in
+    let m : length (a .t1 .items) ≡ keyLimit = search needs in
     let n = length-take-le (a .t1 .count) (a .t1 .items) (omega (arith, s .pre .1)) in
     failed-from (other k) (take (a .t1 .count) (a .t1 .items)) (a .i + 1) (l .loop .j) 0 (omega arith) (l .loop .inv .2)
     (ap (other k) (getD-take (a .t1 .count) (a .t1 .items) (l .loop .j) 0 (search needs)) ∙ ap not (eq-eqb _ _ (c .if1 .taken)))
@@ -65,7 +66,7 @@ loop-again c =
     let s = l .before .before in
     let a = s .args in
     let k = getD (a .t1 .items) (a .i) 0 in
-    let m : length (a .t1 .items) ≡ 64 = search needs in
+    let m : length (a .t1 .items) ≡ keyLimit = search needs in
     let n = length-take-le (a .t1 .count) (a .t1 .items) (omega (arith, s .pre .1)) in (
       search needs,
       search needs,
@@ -79,7 +80,7 @@ returns-2 c =
     let l = c .before in
     let s = l .before .before in
     let a = s .args in
-    let m : length (a .t1 .items) ≡ 64 = search needs in
+    let m : length (a .t1 .items) ≡ keyLimit = search needs in
     let n = length-take-le (a .t1 .count) (a .t1 .items) (omega (arith, s .pre .1)) in
     ended-from (other (getD (a .t1 .items) (a .i) 0)) (take (a .t1 .count) (a .t1 .items)) (a .i + 1) (l .loop .j) (omega arith) (l .loop .inv .2)
 

@@ -8,6 +8,7 @@ use lib.Seq.{length-take-le, getD-take}
 use Rattle.laws.specs.Keys.{absent}
 use Rattle.laws.proofs.Keys.{Rest, one-alone, one-twice, none-left}
 use Rattle.laws.proofs.Tests.{no, yes}
+use Rattle.tables.specs.Tables.{keyLimit}
 use Rattle.tables.proofs.keys_alone.Statement.{statement}
 use Rattle.tables.proofs.keys_alone.Tie as tie
 
@@ -27,7 +28,7 @@ key-alone-requires c κs = (search needs, c .before .before .pre)
 counted : (l : tie.At-loop Inv-loop μ-loop) → length (take (l .before .args .keys .count) (l .before .args .keys .items)) ≡ l .before .args .keys .count
 counted l =
     let a = l .before .args .keys in
-    let m : length (a .items) ≡ 64 = search needs in
+    let m : length (a .items) ≡ keyLimit = search needs in
     length-take-le (a .count) (a .items) (omega (arith, l .before .pre))
 
 returns : tie.Need-returns Inv-loop μ-loop

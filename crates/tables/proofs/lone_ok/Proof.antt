@@ -11,13 +11,13 @@ use Rattle.tables.specs.declared.Keys.{Keys}
 use Rattle.tables.specs.declared.OnNoteValues.{OnNoteValues}
 use Rattle.tables.specs.declared.OnNoteWave.{OnNoteWave}
 use Rattle.tables.specs.declared.OnNoteSine.{OnNoteSine}
-use Rattle.tables.specs.Tables.{noteKeys, waveKeys, sineKeys, cycleKeys, lone}
+use Rattle.tables.specs.Tables.{noteKeys, waveKeys, sineKeys, cycleKeys, lone, keyLimit}
 use Rattle.tables.proofs.Gathering.{few-keys, Room, further}
 use Rattle.tables.proofs.lone_ok.Statement.{statement}
 use Rattle.tables.proofs.lone_ok.Tie as tie
 
 abbrev none : Keys
-none = record { count = 0; items = replicate 64 0 }
+none = record { count = 0; items = replicate keyLimit 0 }
 
 nothing : Room none 0 []
 nothing = record { long = refl; few = omega arith; shown = refl }
@@ -46,7 +46,7 @@ after-sines c =
     (omega (arith, few-keys (λ (e : OnNoteSine). key (e .target)) (t .count) (t .items), s .pre .2)) (omega arith))
 
 after-cycles : (c : tie.After-cycle-keys)
-    → Room (c .cycle-keys .result) 64
+    → Room (c .cycle-keys .result) keyLimit
     (noteKeys (c .before .before .before .before .args .notes) ++ waveKeys (c .before .before .before .before .args .waves) ++ sineKeys (c .before .before .before .before .args .sines)
     ++ cycleKeys (c .before .before .before .before .args .cycles))
 after-cycles c =

@@ -7,7 +7,7 @@ use lib.ListN.{length}
 use Rattle.laws.proofs.Compact.{put-more}
 use Rattle.laws.proofs.Reading.{length-told}
 use Rattle.cycles.specs.declared.Cycle.{Cycle}
-use Rattle.tables.specs.Tables.{noCycle}
+use Rattle.cycles.specs.Rules.{noCycle}
 use Rattle.tables.proofs.put_cycle.Statement.{statement}
 use Rattle.tables.proofs.put_cycle.Tie as tie
 

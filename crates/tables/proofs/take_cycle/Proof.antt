@@ -8,7 +8,8 @@ use lib.ListN.{length}
 use Rattle.laws.proofs.Taking.{Compacting}
 use Rattle.laws.proofs.Reading.{length-told}
 use Rattle.cycles.specs.declared.Cycle.{Cycle}
-use Rattle.tables.specs.Tables.{noCycle, cycleAt}
+use Rattle.cycles.specs.Rules.{noCycle}
+use Rattle.tables.specs.Tables.{cycleAt}
 use Rattle.tables.proofs.Closing.{few, drop-one, keep-one, finished}
 use Rattle.tables.proofs.take_cycle.Statement.{statement}
 use Rattle.tables.proofs.take_cycle.Tie as tie

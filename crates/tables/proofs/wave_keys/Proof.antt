@@ -12,6 +12,7 @@ use mir.Facts.{toZ-ofZ}
 use Rattle.laws.proofs.Reading.{length-told}
 use Rattle.tables.specs.declared.OnNoteWave.{OnNoteWave}
 use Rattle.cycles.specs.Due.{key}
+use Rattle.tables.specs.Tables.{keyLimit}
 use Rattle.tables.proofs.Gathering.{Gathering, nothing-yet, one-further, all-in}
 use Rattle.tables.proofs.wave_keys.Statement.{statement}
 use Rattle.tables.proofs.wave_keys.Tie as tie
@@ -64,7 +65,7 @@ loop-again c =
     let s = l .before .before in
     let a = s .args in
     let n : length (a .t1 .items) ≡ 16 = search (needs, length-told) in
-    let m : length (a .keys .items) ≡ 64 = search needs in
+    let m : length (a .keys .items) ≡ keyLimit = search needs in
     let f : SFits w32 (getD (a .t1 .items) (l .loop .i) past .target) = record { sfits = c .before .struct-told .given .0 .1 } in
     one-further keyOf (a .t1 .items) (a .keys .items) (a .keys .count) (a .t1 .count) (omega (arith, s .pre .0)) (l .loop .items) (l .loop .i) (c .key-of .result) past (l .loop .inv)
     (search needs) (omega (arith, s .pre .1)) (c .key-of .ensures ∙ ap key (toZ-ofZ f))

@@ -8,6 +8,7 @@ use Rattle.budget.specs.declared.Budget.{Budget}
 use Rattle.counted.specs.declared.Numbers.{Numbers}
 use Rattle.counted.specs.Numbers.{shown}
 use Rattle.sines.specs.Kinds.{sineType}
+use Rattle.sines.proofs.Named.{kind-told}
 use Rattle.sines.specs.declared.SineType.{SineType}
 use Rattle.values.specs.declared.Write.{Write}
 use Rattle.values.specs.Value.{Ready}
@@ -69,7 +70,7 @@ returns c =
     let target : SFits w32 (e .target) = record { sfits = w .before .struct-told .given .0 .1 } in
     let asked : w .write-of .result ≡ writeOf (s .args .track) (e .target) = w .write-of .ensures ∙ ap (writeOf (s .args .track)) (toZ-ofZ target) in
     let shape : toZ w64 (e .shape) ≡ pos (e .shape) = toZ-pos w64 (omega (arith, sine-shape e (s .pre .1))) in
-    let kind : k .from-i .result ≡ sineType (pos (e .shape)) = k .from-i .ensures ∙ ap sineType shape in
+    let kind : k .from-i .result ≡ sineType (pos (e .shape)) = kind-told (toZ w64 (e .shape)) (k .from-i .result) (k .from-i .ensures) ∙ ap sineType shape in
     let ts = triples (shown (c .empty .result)) in
     let p = g .sine-figure .ensures in
     λ (b : Budget).

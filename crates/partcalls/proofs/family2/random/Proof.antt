@@ -33,9 +33,10 @@ new-requires c κs = search needs
 
 calc-rand-value-requires : tie.Need-calc-rand-value-requires
 calc-rand-value-requires c κs =
-    let a = c .before .before .before .before .before .before .args in (
-      word-small (toZ w64 (ofZ w64 (a .value))) (yes (c .before .before .before .before .before .is-word .ensures) (c .before .before .before .before .if1 .left)),
-      word-small (toZ w64 (ofZ w64 (a .width))) (yes (c .before .before .before .is-word2 .ensures) (c .before .before .if2 .left)),
+    let n = c .before in
+    let a = n .before .before .before .before .before .before .args in (
+      word-small (toZ w64 (ofZ w64 (a .value))) (yes (n .before .before .before .before .before .is-word .ensures) (n .before .before .before .before .if1 .left)),
+      word-small (toZ w64 (ofZ w64 (a .width))) (yes (n .before .before .before .is-word2 .ensures) (n .before .before .if2 .left)),
     )
 
 cast-two : tie.Need-cast-two
