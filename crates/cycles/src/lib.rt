@@ -177,14 +177,22 @@ pub fn step(c: Cycle, ask: Ask, b: Budget) -> Stepped
         value: value,
     };
     let wrote = values::one_value(w, b, o);
-    let cycle = advance(c);
+    let next = advance(c);
     let after = wrote.budget;
     let event = wrote.event;
+    if wrote.fits {
+        return Stepped {
+            cycle: next,
+            budget: after,
+            event: event,
+            fits: true,
+        };
+    }
     Stepped {
-        cycle: cycle,
+        cycle: next, // past the write that is lost
         budget: after,
         event: event,
-        fits: wrote.fits,
+        fits: false,
     }
 }
 
