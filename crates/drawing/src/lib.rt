@@ -366,10 +366,10 @@ pub fn write_sine(
         times: times,
     };
     let usable = track_ok(track) & budget_ok(budget) & sine_ok(sine);
-    let code = asked(target, true, usable, events, count, store.len());
-    if code != 0 {
+    let refusal = asked(target, true, usable, events, count, store.len());
+    if refusal != 0 {
         return Outcome {
-            code: code,
+            code: refusal,
             count: count,
             budget: budget,
         };
