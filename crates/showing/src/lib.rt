@@ -1,6 +1,6 @@
-// The sections that show a desk after a call, as docs/COMPARING.md says: the budget and the event lists (written), the
-// track's own numbers and options (numbered), its parameters and layers (played), and what is reserved for targets
-// (waiting). What they have in common is below them (stored).
+// The sections that show a desk after a call, as docs/COMPARING.md says: which follow a call, and in which order, stands here.
+// Below are the rows of the budget and the track, and the options (numbered), the parameters (played), the tables of layers
+// and of what is reserved for targets (waiting), and the event lists (written). What they have in common is in `stored`.
 mod numbered;
 mod played;
 mod stored;
@@ -8,75 +8,84 @@ mod waiting;
 mod written;
 
 use desk::Desk;
-use desk::param_at;
+use numbered::budget_row;
 use numbered::show_options;
-use numbered::show_track;
-use played::show_layers;
-use played::show_param;
+use numbered::track_row;
+use played::show_named;
 use played::show_params;
 use script::pen::Pen;
 use script::reader::family_of;
-use waiting::show_tables;
-use written::show_budget;
+use stored::Row;
+use stored::show_row;
+use waiting::show_table;
 use written::show_list;
-use written::show_lists;
 
-// Family 4: P of the parameter that the call named; call 418 names none.
-fn show_named(op: i64, pen: Pen, out: &mut [u8], desk: Desk) -> Pen {
-    if op == 418 {
-        return pen;
+// The most sections that a call shows.
+const MOST_SECTIONS: usize = 10;
+
+// Letter i of a row of sections.
+fn letter_in(rows: &[u8], i: usize) -> u8 {
+    if i < rows.len() {
+        return rows[i];
     }
-    show_param(pen, out, param_at(desk, desk.named))
+    b' '
 }
 
-// Family 5: T, P of all five, L.
-fn show_played(pen: Pen, out: &mut [u8], desk: Desk) -> Pen {
-    let track = desk.track;
-    let p = show_track(pen, out, track);
-    let q = show_params(p, out, track);
-    show_layers(q, out, track)
+// The row of a call's sections: its family's, or its own.
+fn row_of_call(op: i64) -> u32 {
+    match op {
+        306 => 11,
+        418 => 0,
+        915 => 10,
+        _ => family_of(op),
+    }
 }
 
-// Family 6: E B O.
-fn show_drawn(pen: Pen, out: &mut [u8], desk: Desk, events: &[i64], store: &[u8]) -> Pen {
-    let track = desk.track;
-    let p = show_list(pen, out, b'E', events, desk.count, store);
-    let q = show_budget(p, out, desk.budget);
-    show_options(q, out, track)
+// Section i of a row, a space where there is none: families 0 to 9, then 915 and 306. `p` is P of the parameter that the
+// call named.
+fn letter_of(row: u32, i: usize) -> u8 {
+    if row < 12 {
+        if i < MOST_SECTIONS {
+            return letter_in(
+                b"                    B         E         p         TPL       EBO       EBTONWSC  T                   EBTOPLNWSCER        ",
+                row as usize * 10 + i,
+            );
+        }
+    }
+    b' '
 }
 
-// N W S C.
-fn show_reserved(pen: Pen, out: &mut [u8], desk: Desk) -> Pen {
-    let track = desk.track;
-    let cycles = desk.cycles;
-    show_tables(pen, out, track, cycles)
+// B or T.
+fn numbers_of(letter: u8, desk: Desk) -> Row {
+    if letter == b'B' {
+        return budget_row(desk.budget);
+    }
+    track_row(desk.track)
 }
 
-// E B T O.
-fn show_front(pen: Pen, out: &mut [u8], desk: Desk, events: &[i64], store: &[u8]) -> Pen {
-    let track = desk.track;
-    let a = show_list(pen, out, b'E', events, desk.count, store);
-    let b = show_budget(a, out, desk.budget);
-    let c = show_track(b, out, track);
-    show_options(c, out, track)
+// One section.
+fn section(
+    letter: u8,
+    pen: Pen,
+    out: &mut [u8],
+    desk: Desk,
+    events: &[i64],
+    second: &[i64],
+    store: &[u8],
+) -> Pen {
+    match letter {
+        b' ' => pen,
+        b'B' | b'T' => show_row(pen, out, letter, numbers_of(letter, desk)),
+        b'E' => show_list(pen, out, letter, events, desk.count, store),
+        b'R' => show_list(pen, out, letter, second, desk.split, store),
+        b'O' => show_options(pen, out, desk),
+        b'P' => show_params(pen, out, desk),
+        b'p' => show_named(pen, out, desk),
+        _ => show_table(pen, out, letter, desk),
+    }
 }
 
-// Family 7: E B T O N W S C.
-fn show_written(pen: Pen, out: &mut [u8], desk: Desk, events: &[i64], store: &[u8]) -> Pen {
-    let a = show_front(pen, out, desk, events, store);
-    show_reserved(a, out, desk)
-}
-
-// Call 915: E B T O P L N W S C.
-fn show_all(pen: Pen, out: &mut [u8], desk: Desk, events: &[i64], store: &[u8]) -> Pen {
-    let track = desk.track;
-    let a = show_front(pen, out, desk, events, store);
-    let b = show_params(a, out, track);
-    let c = show_layers(b, out, track);
-    show_reserved(c, out, desk)
-}
-
-// The sections of the call's family.
+// The sections of a call.
 pub fn show(
     op: i64,
     pen: Pen,
@@ -86,17 +95,12 @@ pub fn show(
     second: &[i64],
     store: &[u8],
 ) -> Pen {
-    if op == 915 {
-        return show_all(pen, out, desk, events, store);
+    let row = row_of_call(op);
+    let mut p = pen;
+    let mut i: usize = 0;
+    while i < MOST_SECTIONS {
+        p = section(letter_of(row, i), p, out, desk, events, second, store);
+        i += 1;
     }
-    match family_of(op) {
-        2 => show_budget(pen, out, desk.budget),
-        3 => show_lists(op, pen, out, desk, events, second, store),
-        4 => show_named(op, pen, out, desk),
-        5 => show_played(pen, out, desk),
-        6 => show_drawn(pen, out, desk, events, store),
-        7 => show_written(pen, out, desk, events, store),
-        8 => show_track(pen, out, desk.track),
-        _ => pen,
-    }
+    p
 }

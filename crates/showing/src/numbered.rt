@@ -1,8 +1,11 @@
-// T and O: the numbers that stand in a track alone, and the options of its targets.
-use crate::stored::put_count;
-use crate::stored::put_ends;
-use crate::stored::put_flag;
-use crate::stored::put_word;
+// B, T and O: the budget, the numbers that stand in a track alone, and the options of its targets.
+use crate::stored::Row;
+use crate::stored::counted;
+use crate::stored::put_row;
+use crate::stored::row_of;
+use budget::Budget;
+use desk::Desk;
+use desk::lists::widened;
 use script::pen::Pen;
 use script::pen::begin;
 use script::pen::end;
@@ -11,27 +14,42 @@ use state::OPTIONS;
 use state::Track;
 use values::WriteOption;
 
-// Timebase, timepos, channel.
-fn put_where(pen: Pen, out: &mut [u8], track: Track) -> Pen {
-    let a = put_word(pen, out, track.timebase);
-    let b = number(a, out, track.timepos);
-    put_word(b, out, track.channel)
+// B: seed, maximum, used, flag.
+pub fn budget_row(b: Budget) -> Row {
+    row_of(
+        4,
+        [
+            b.seed as i64,
+            b.maximum as i64,
+            b.used as i64,
+            b.over as i64,
+            0,
+            0,
+            0,
+            0,
+            0,
+            0,
+        ],
+    )
 }
 
-// Velocity, timing, octave, qlen, qlen_is_step.
-fn put_how(pen: Pen, out: &mut [u8], track: Track) -> Pen {
-    let a = put_ends(pen, out, track.velocity, track.timing);
-    let b = put_ends(a, out, track.octave, track.qlen);
-    put_flag(b, out, track.step)
-}
-
-// T.
-pub fn show_track(pen: Pen, out: &mut [u8], track: Track) -> Pen {
-    let a = begin(pen, out, b'T');
-    let b = put_where(a, out, track);
-    let c = put_ends(b, out, track.ccfreq, track.pbfreq);
-    let d = put_how(c, out, track);
-    end(d, out)
+// T: timebase, timepos, channel, both frequencies, velocity, timing, octave, qlen, qlen_is_step.
+pub fn track_row(t: Track) -> Row {
+    row_of(
+        10,
+        [
+            widened(t.timebase),
+            t.timepos,
+            widened(t.channel),
+            widened(t.ccfreq),
+            widened(t.pbfreq),
+            widened(t.velocity),
+            widened(t.timing),
+            widened(t.octave),
+            widened(t.qlen),
+            t.step as i64,
+        ],
+    )
 }
 
 // Whether anything is set in an option.
@@ -47,24 +65,29 @@ fn option_at(options: [WriteOption; OPTIONS], key: usize) -> WriteOption {
     WriteOption::new()
 }
 
-// Ranged, low, high, repeat.
-fn put_limits(pen: Pen, out: &mut [u8], o: WriteOption) -> Pen {
-    let a = put_flag(pen, out, o.ranged);
-    let b = put_ends(a, out, o.low, o.high);
-    put_flag(b, out, o.repeat)
+// Key, delay, random, ranged, low, high, repeat.
+fn option_row(key: usize, o: WriteOption) -> Row {
+    row_of(
+        7,
+        [
+            counted(key),
+            widened(o.delay),
+            widened(o.random),
+            o.ranged as i64,
+            widened(o.low),
+            widened(o.high),
+            o.repeat as i64,
+            0,
+            0,
+            0,
+        ],
+    )
 }
 
-// Key, delay, random, and those.
-fn put_option(pen: Pen, out: &mut [u8], key: usize, o: WriteOption) -> Pen {
-    let a = put_count(pen, out, key);
-    let b = put_ends(a, out, o.delay, o.random);
-    put_limits(b, out, o)
-}
-
-// The same where anything is set.
+// An option, where anything is set.
 fn put_if_set(pen: Pen, out: &mut [u8], key: usize, o: WriteOption) -> Pen {
     if is_set(o) {
-        return put_option(pen, out, key, o);
+        return put_row(pen, out, option_row(key, o));
     }
     pen
 }
@@ -101,10 +124,11 @@ fn put_options(pen: Pen, out: &mut [u8], options: [WriteOption; OPTIONS]) -> Pen
 }
 
 // O.
-pub fn show_options(pen: Pen, out: &mut [u8], track: Track) -> Pen {
+pub fn show_options(pen: Pen, out: &mut [u8], desk: Desk) -> Pen {
+    let track = desk.track;
     let options = track.options;
     let a = begin(pen, out, b'O');
-    let b = put_count(a, out, count_set(options));
+    let b = number(a, out, counted(count_set(options)));
     let c = put_options(b, out, options);
     end(c, out)
 }

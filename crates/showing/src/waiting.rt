@@ -1,12 +1,19 @@
-// N, W, S and C: what is reserved for targets, in the order of entry.
-use crate::stored::put_count;
-use crate::stored::put_ends;
-use crate::stored::put_flag;
-use crate::stored::put_list;
-use crate::stored::put_place;
-use crate::stored::put_word;
+// L, N, W, S and C: tables, each its count and its entries in the order of entry. L has the velocity layers, the others what
+// is reserved for targets.
+use crate::stored::Entry;
+use crate::stored::counted;
+use crate::stored::placed;
+use crate::stored::put_entry;
+use crate::stored::row_of;
+use crate::stored::with_list;
+use crate::stored::without_list;
 use cycles::Cycle;
 use cycles::PLACES;
+use desk::Desk;
+use desk::lists::widened;
+use layers::LAYER_LIMIT;
+use layers::Layer;
+use layers::Layers;
 use script::pen::Pen;
 use script::pen::begin;
 use script::pen::end;
@@ -19,148 +26,189 @@ use tables::OnNoteWave;
 use tables::SineTable;
 use tables::WaveTable;
 
-// Target, index, cycling, and the list.
-fn put_note(pen: Pen, out: &mut [u8], e: OnNoteValues) -> Pen {
-    let list = e.values;
-    let a = put_word(pen, out, e.target);
-    let b = put_place(a, out, e.index);
-    let c = put_flag(b, out, e.cycling);
-    put_list(c, out, list)
+fn no_entry() -> Entry {
+    without_list(row_of(0, [0; 10]))
 }
 
-fn put_note_at(pen: Pen, out: &mut [u8], table: NoteTable, i: usize) -> Pen {
+// Value, random, kind, start, length, index, cycling, and the list.
+fn layer_entry(layer: Layer) -> Entry {
+    let r = layer.reserve;
+    let list = r.values;
+    let numbers = row_of(
+        7,
+        [
+            widened(layer.value),
+            widened(layer.random),
+            r.kind as i64,
+            r.start,
+            widened(r.length),
+            placed(r.index),
+            r.cycling as i64,
+            0,
+            0,
+            0,
+        ],
+    );
+    with_list(numbers, list)
+}
+
+fn layer_at(layers: Layers, i: usize) -> Entry {
+    if i < LAYER_LIMIT {
+        let layer = layers.items[i];
+        return layer_entry(layer);
+    }
+    no_entry()
+}
+
+// Target, index, cycling, and the list.
+fn note_entry(e: OnNoteValues) -> Entry {
+    let list = e.values;
+    let numbers = row_of(
+        3,
+        [
+            widened(e.target),
+            placed(e.index),
+            e.cycling as i64,
+            0,
+            0,
+            0,
+            0,
+            0,
+            0,
+            0,
+        ],
+    );
+    with_list(numbers, list)
+}
+
+fn note_at(table: NoteTable, i: usize) -> Entry {
     if i < PLACES {
         let e = table.items[i];
-        return put_note(pen, out, e);
+        return note_entry(e);
     }
-    pen
-}
-
-fn put_notes(pen: Pen, out: &mut [u8], table: NoteTable) -> Pen {
-    let n = table.count;
-    let mut p = put_count(pen, out, n);
-    let mut i: usize = 0;
-    while i < n {
-        p = put_note_at(p, out, table, i);
-        i += 1;
-    }
-    p
+    no_entry()
 }
 
 // Target, mode, and the list.
-fn put_wave(pen: Pen, out: &mut [u8], e: OnNoteWave) -> Pen {
+fn wave_entry(e: OnNoteWave) -> Entry {
     let list = e.values;
-    let a = put_word(pen, out, e.target);
-    let b = put_flag(a, out, e.mode);
-    put_list(b, out, list)
+    let numbers = row_of(
+        2,
+        [widened(e.target), e.mode as i64, 0, 0, 0, 0, 0, 0, 0, 0],
+    );
+    with_list(numbers, list)
 }
 
-fn put_wave_at(pen: Pen, out: &mut [u8], table: WaveTable, i: usize) -> Pen {
+fn wave_at(table: WaveTable, i: usize) -> Entry {
     if i < PLACES {
         let e = table.items[i];
-        return put_wave(pen, out, e);
+        return wave_entry(e);
     }
-    pen
+    no_entry()
 }
 
-fn put_waves(pen: Pen, out: &mut [u8], table: WaveTable) -> Pen {
-    let n = table.count;
-    let mut p = put_count(pen, out, n);
-    let mut i: usize = 0;
-    while i < n {
-        p = put_wave_at(p, out, table, i);
-        i += 1;
-    }
-    p
+// Target, type, low, high, length, times.
+fn sine_entry(e: OnNoteSine) -> Entry {
+    without_list(row_of(
+        6,
+        [
+            widened(e.target),
+            e.shape as i64,
+            widened(e.low),
+            widened(e.high),
+            widened(e.length),
+            widened(e.times),
+            0,
+            0,
+            0,
+            0,
+        ],
+    ))
 }
 
-// Target, type.
-fn put_shape(pen: Pen, out: &mut [u8], e: OnNoteSine) -> Pen {
-    let a = put_word(pen, out, e.target);
-    put_flag(a, out, e.shape)
-}
-
-// The same, and low, high, length, times.
-fn put_sine(pen: Pen, out: &mut [u8], e: OnNoteSine) -> Pen {
-    let a = put_shape(pen, out, e);
-    let b = put_ends(a, out, e.low, e.high);
-    put_ends(b, out, e.length, e.times)
-}
-
-fn put_sine_at(pen: Pen, out: &mut [u8], table: SineTable, i: usize) -> Pen {
+fn sine_at(table: SineTable, i: usize) -> Entry {
     if i < PLACES {
         let e = table.items[i];
-        return put_sine(pen, out, e);
+        return sine_entry(e);
     }
-    pen
-}
-
-fn put_sines(pen: Pen, out: &mut [u8], table: SineTable) -> Pen {
-    let n = table.count;
-    let mut p = put_count(pen, out, n);
-    let mut i: usize = 0;
-    while i < n {
-        p = put_sine_at(p, out, table, i);
-        i += 1;
-    }
-    p
+    no_entry()
 }
 
 // Target, length, next, index, and the list.
-fn put_cycle(pen: Pen, out: &mut [u8], e: Cycle) -> Pen {
+fn cycle_entry(e: Cycle) -> Entry {
     let list = e.values;
-    let a = put_ends(pen, out, e.target, e.length);
-    let b = number(a, out, e.next);
-    let c = put_place(b, out, e.index);
-    put_list(c, out, list)
+    let numbers = row_of(
+        4,
+        [
+            widened(e.target),
+            widened(e.length),
+            e.next,
+            placed(e.index),
+            0,
+            0,
+            0,
+            0,
+            0,
+            0,
+        ],
+    );
+    with_list(numbers, list)
 }
 
-fn put_cycle_at(pen: Pen, out: &mut [u8], cycles: [Cycle; PLACES], i: usize) -> Pen {
+fn cycle_at(cycles: [Cycle; PLACES], i: usize) -> Entry {
     if i < PLACES {
         let e = cycles[i];
-        return put_cycle(pen, out, e);
+        return cycle_entry(e);
     }
-    pen
+    no_entry()
 }
 
-fn put_cycles(pen: Pen, out: &mut [u8], cycles: [Cycle; PLACES], n: usize) -> Pen {
-    let mut p = put_count(pen, out, n);
+// Entry i of the table that the letter names.
+fn entry_at(letter: u8, track: Track, cycles: [Cycle; PLACES], i: usize) -> Entry {
+    match letter {
+        b'L' => layer_at(track.layers, i),
+        b'N' => note_at(track.notes, i),
+        b'W' => wave_at(track.waves, i),
+        b'S' => sine_at(track.sines, i),
+        _ => cycle_at(cycles, i),
+    }
+}
+
+// How many entries it has.
+fn count_in(letter: u8, track: Track) -> usize {
+    match letter {
+        b'L' => track.layers.count,
+        b'N' => track.notes.count,
+        b'W' => track.waves.count,
+        b'S' => track.sines.count,
+        _ => track.cycles,
+    }
+}
+
+// Its first n entries.
+fn put_entries(
+    pen: Pen,
+    out: &mut [u8],
+    letter: u8,
+    track: Track,
+    cycles: [Cycle; PLACES],
+    n: usize,
+) -> Pen {
+    let mut p = pen;
     let mut i: usize = 0;
     while i < n {
-        p = put_cycle_at(p, out, cycles, i);
+        p = put_entry(p, out, entry_at(letter, track, cycles, i));
         i += 1;
     }
     p
 }
 
-fn show_notes(pen: Pen, out: &mut [u8], table: NoteTable) -> Pen {
-    let p = begin(pen, out, b'N');
-    let q = put_notes(p, out, table);
-    end(q, out)
-}
-
-fn show_waves(pen: Pen, out: &mut [u8], table: WaveTable) -> Pen {
-    let p = begin(pen, out, b'W');
-    let q = put_waves(p, out, table);
-    end(q, out)
-}
-
-fn show_sines(pen: Pen, out: &mut [u8], table: SineTable) -> Pen {
-    let p = begin(pen, out, b'S');
-    let q = put_sines(p, out, table);
-    end(q, out)
-}
-
-fn show_cycles(pen: Pen, out: &mut [u8], cycles: [Cycle; PLACES], n: usize) -> Pen {
-    let p = begin(pen, out, b'C');
-    let q = put_cycles(p, out, cycles, n);
-    end(q, out)
-}
-
-// N W S C.
-pub fn show_tables(pen: Pen, out: &mut [u8], track: Track, cycles: [Cycle; PLACES]) -> Pen {
-    let a = show_notes(pen, out, track.notes);
-    let b = show_waves(a, out, track.waves);
-    let c = show_sines(b, out, track.sines);
-    show_cycles(c, out, cycles, track.cycles)
+pub fn show_table(pen: Pen, out: &mut [u8], letter: u8, desk: Desk) -> Pen {
+    let track = desk.track;
+    let cycles = desk.cycles;
+    let n = count_in(letter, track);
+    let a = begin(pen, out, letter);
+    let b = number(a, out, counted(n));
+    let c = put_entries(b, out, letter, track, cycles, n);
+    end(c, out)
 }

@@ -1,8 +1,5 @@
-// B, E and R: the budget, and the event lists.
-use crate::stored::put_count;
-use crate::stored::put_flag;
-use budget::Budget;
-use desk::Desk;
+// E and R: the event lists.
+use crate::stored::counted;
 use desk::MOST_RECORDS;
 use eventlist::WIDTH;
 use script::args::arg;
@@ -11,16 +8,6 @@ use script::pen::Pen;
 use script::pen::begin;
 use script::pen::end;
 use script::pen::number;
-
-// B: seed, maximum, used, flag.
-pub fn show_budget(pen: Pen, out: &mut [u8], b: Budget) -> Pen {
-    let p = begin(pen, out, b'B');
-    let q = put_flag(p, out, b.seed);
-    let r = put_flag(q, out, b.maximum);
-    let s = put_flag(r, out, b.used);
-    let t = put_flag(s, out, b.over);
-    end(t, out)
-}
 
 // Number `field` of the record at `place`.
 fn number_at(events: &[i64], place: usize, field: usize) -> i64 {
@@ -105,24 +92,7 @@ pub fn show_list(
     store: &[u8],
 ) -> Pen {
     let p = begin(pen, out, letter);
-    let q = put_count(p, out, count);
+    let q = number(p, out, counted(count));
     let r = put_records(q, out, events, count, store);
     end(r, out)
-}
-
-// E, and after call 306 R.
-pub fn show_lists(
-    op: i64,
-    pen: Pen,
-    out: &mut [u8],
-    desk: Desk,
-    events: &[i64],
-    second: &[i64],
-    store: &[u8],
-) -> Pen {
-    let p = show_list(pen, out, b'E', events, desk.count, store);
-    if op != 306 {
-        return p;
-    }
-    show_list(p, out, b'R', second, desk.split, store)
 }

@@ -12,14 +12,20 @@ Inv-loop out₀ list n p₀ i₀ out p i = length out ≡ length out₀
 abbrev μ-loop : tie.MeasureT-loop
 μ-loop out₀ list n p₀ i₀ out p i = n - i
 
-put-count-requires : tie.Need-put-count-requires Inv-loop μ-loop
-put-count-requires c κs = search needs
+counted-requires : tie.Need-counted-requires Inv-loop μ-loop
+counted-requires c κs = search needs
+
+number-requires : tie.Need-number-requires Inv-loop μ-loop
+number-requires c κs = search needs
 
 loop-holds : tie.Need-loop-holds Inv-loop μ-loop
 loop-holds c = search needs
 
-put-item-requires : tie.Need-put-item-requires Inv-loop μ-loop
-put-item-requires c κs = search needs
+item-in-requires : tie.Need-item-in-requires Inv-loop μ-loop
+item-in-requires c κs = search needs
+
+number-requires-2 : tie.Need-number-requires-2 Inv-loop μ-loop
+number-requires-2 c κs = search needs
 
 add-i : tie.Need-add-i Inv-loop μ-loop
 add-i c = search needs
@@ -42,9 +48,11 @@ put-list-spec =
     (tie.spec
     Inv-loop
     μ-loop
-    put-count-requires
+    counted-requires
+    number-requires
     loop-holds
-    put-item-requires
+    item-in-requires
+    number-requires-2
     add-i
     loop-less
     loop-again
