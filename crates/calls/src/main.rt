@@ -6,14 +6,20 @@ ghost use lib.ListN.{length};
 use desk::Called;
 use desk::Desk;
 use desk::answered;
+use desk::lending::handed;
+use desk::lending::numbers_in;
 use desk::new_desk;
 use partcalls::family1;
 use partcalls::family2;
 use partcalls::family3;
 use partcalls::family4;
+use script::answer::Answer;
+use script::answer::one;
 use script::answer::put_answer;
+use script::answer::refusal;
 use script::answer::unknown;
 use script::args::arg;
+use script::args::as_i32;
 use script::pen::Pen;
 use script::pen::end_line;
 use script::pen::flush;
@@ -26,6 +32,8 @@ use script::reader::first_place;
 use script::reader::read_call;
 use showing::show;
 use targetcalls::family7;
+use track::CcValue;
+use track::current_cc_value;
 use trackcalls::family5;
 use trackcalls::family6;
 use trackcalls::family8;
@@ -70,6 +78,38 @@ fn fill_store(store: &mut [u8]) {
     }
 }
 
+// 305: the value of a controller, on the list as it is lent.
+fn value(args: &[i64], desk: Desk, events: &[i64], store: &[u8]) -> Answer {
+    let h = handed(desk.count, desk.room, desk.extra);
+    let n = numbers_in(desk.room, desk.odd);
+    if events.len() < n {
+        return unknown();
+    }
+    told(current_cc_value(desk.track, as_i32(arg(args, 0)), &events[..n], h, store))
+}
+
+fn told(v: CcValue) -> Answer {
+    if v.code != 0 {
+        return refusal(v.code);
+    }
+    one(v.value)
+}
+
+// Family 3, and 305.
+fn on_list(
+    op: i64,
+    args: &[i64],
+    desk: Desk,
+    events: &mut [i64],
+    second: &mut [i64],
+    store: &[u8],
+) -> Called {
+    if op == 305 {
+        return answered(value(args, desk, events, store), desk);
+    }
+    family3::carry_out(op, args, desk, events, second, store)
+}
+
 // Carries out one call.
 fn call(
     op: i64,
@@ -82,7 +122,7 @@ fn call(
     match family_of(op) {
         1 => family1::carry_out(op, args, desk, store),
         2 => family2::carry_out(op, args, desk),
-        3 => family3::carry_out(op, args, desk, events, second, store),
+        3 => on_list(op, args, desk, events, second, store),
         4 => family4::carry_out(op, args, desk),
         5 => family5::carry_out(op, args, desk),
         6 => family6::carry_out(op, args, desk, events, store),

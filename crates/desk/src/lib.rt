@@ -1,6 +1,7 @@
 // The desk on which the calls of a script are carried out: what each call finds as the one before left it. The records
-// of the event list stand in a slice that is lent beside it, and those of call 306 in a second. Beside it stand the lists
-// of 32 bits that calls are handed (lists).
+// of the event list stand in a slice that is lent beside it, and those of call 306 in a second. Beside it stand how a call is
+// lent the list (lending), and the lists of 32 bits that calls are handed (lists).
+pub mod lending;
 pub mod lists;
 
 use budget::Budget;

@@ -1,7 +1,5 @@
 // Family 3: the list, lent as the desk says. What the Rust has no call for (301 to 303) tests here what a call of the
-// port tests.
-use crate::lending::handed;
-use crate::lending::numbers_in;
+// port tests. Call 305 is not here.
 use crate::record::event_of;
 use crate::record::numbers_of;
 use cutting::full_cut;
@@ -9,6 +7,8 @@ use cutting::play_from;
 use desk::Called;
 use desk::Desk;
 use desk::answered;
+use desk::lending::handed;
+use desk::lending::numbers_in;
 use desk::with_count;
 use desk::with_split;
 use eventlist::Taken;
@@ -30,15 +30,12 @@ use numbers::is_target;
 use numbers::is_time;
 use script::answer::Answer;
 use script::answer::done;
-use script::answer::one;
 use script::answer::refusal;
 use script::answer::unknown;
 use script::args::arg;
 use script::args::as_i32;
 use script::args::as_usize;
 use sorting::events_sort;
-use state::Track;
-use track::current_cc_value;
 
 // What a call on the list answers, how many records are in use after it, and how many stand in the second slice.
 struct Listed {
@@ -131,15 +128,6 @@ fn remove(own: usize, count: usize, w: Window, events: &mut [i64], store: &[u8])
     of_list(done(), n)
 }
 
-// 305.
-fn value(track: Track, count: usize, number: i64, events: &[i64], store: &[u8]) -> Answer {
-    let v = current_cc_value(track, as_i32(number), events, count, store);
-    if v.code != 0 {
-        return refusal(v.code);
-    }
-    one(v.value)
-}
-
 // 306.
 fn split(own: usize, count: usize, events: &[i64], second: &mut [i64], store: &[u8]) -> Listed {
     let t = split_note_off(events, count, second, store);
@@ -203,12 +191,6 @@ pub fn carry_out(
     }
     if second.len() < m {
         return answered(unknown(), desk);
-    }
-    if op == 305 {
-        return answered(
-            value(desk.track, h, arg(args, 0), &events[..n], store),
-            desk,
-        );
     }
     settled(
         desk,

@@ -113,9 +113,17 @@ fn listed(op: i64, args: &[i64], track: Track, place: i64) -> Tracked {
     with_first(op, track, place, &list, count_of(args, 1))
 }
 
-// 520 to 527: a number of a parameter.
-fn set(op: i64, track: Track, which: u32, x: i32, y: i32, on: u32) -> TrackAnswer {
+// 511 and 512 of a layer, 520 to 527 of a parameter: `place` names it.
+fn set(op: i64, args: &[i64], track: Track, place: i64) -> TrackAnswer {
+    let which = as_u32(place);
+    let layer = as_usize(place);
+    let second = arg(args, 1);
+    let x = as_i32(second);
+    let on = as_u32(second);
+    let y = as_i32(arg(args, 2));
     match op {
+        511 => set_v_sub(track, layer, x),
+        512 => set_v_sub_random(track, layer, x),
         520 => clear_param_reserve(track, which),
         521 => set_param_random(track, which, x),
         522 => set_param_range(track, which, x, y),
@@ -129,24 +137,12 @@ fn set(op: i64, track: Track, which: u32, x: i32, y: i32, on: u32) -> TrackAnswe
 
 fn on_track(op: i64, args: &[i64], track: Track) -> Tracked {
     let a = arg(args, 0);
-    let x = as_i32(a);
-    let y = as_i32(arg(args, 1));
     match op {
-        501 | 503 | 505 | 507 | 509 => taken(on_time(op, track, x)),
-        502 | 504 | 506 | 508 | 510 => taken(on_note(op, track, x)),
-        511 => left(set_v_sub(track, as_usize(a), y)),
-        512 => left(set_v_sub_random(track, as_usize(a), y)),
-        513..=515 => listed(op, args, track, a),
-        516 => summed(apply_v_sub(track, x)),
-        517..=519 => listed(op, args, track, a),
-        520..=527 => left(set(
-            op,
-            track,
-            as_u32(a),
-            y,
-            as_i32(arg(args, 2)),
-            as_u32(arg(args, 1)),
-        )),
+        501 | 503 | 505 | 507 | 509 => taken(on_time(op, track, as_i32(a))),
+        502 | 504 | 506 | 508 | 510 => taken(on_note(op, track, as_i32(a))),
+        511 | 512 | 520..=527 => left(set(op, args, track, a)),
+        513..=515 | 517..=519 => listed(op, args, track, a),
+        516 => summed(apply_v_sub(track, as_i32(a))),
         _ => of_track(unknown(), track),
     }
 }

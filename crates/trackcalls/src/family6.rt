@@ -7,6 +7,11 @@ use desk::Desk;
 use desk::Tracked;
 use desk::answered;
 use desk::left;
+use desk::lending::Written;
+use desk::lending::handed;
+use desk::lending::numbers_in;
+use desk::lending::of_write;
+use desk::lending::wrote_on;
 use desk::lists::HANDED;
 use desk::lists::count_of;
 use desk::lists::fill;
@@ -28,11 +33,6 @@ use eventlist::append;
 use eventlist::list_ok;
 use numbers::is_number;
 use numbers::is_time;
-use partcalls::lending::Written;
-use partcalls::lending::handed;
-use partcalls::lending::numbers_in;
-use partcalls::lending::of_write;
-use partcalls::lending::wrote_on;
 use script::answer::Answer;
 use script::answer::done;
 use script::answer::flag;
@@ -44,6 +44,7 @@ use script::args::as_i32;
 use script::args::as_u32;
 use sines::SineType;
 use state::Track;
+use state::TrackAnswer;
 use values::Offer;
 use values::Write;
 use values::WriteOption;
@@ -82,17 +83,26 @@ fn shape(number: i64) -> Answer {
     }
 }
 
+// 602 to 605.
+fn set(op: i64, track: Track, target: i32, x: i32, y: i32) -> TrackAnswer {
+    match op {
+        602 => set_delay(track, target, x),
+        603 => set_random(track, target, x),
+        604 => set_range(track, target, x, y),
+        _ => clear_range(track, target),
+    }
+}
+
 fn on_track(op: i64, args: &[i64], track: Track) -> Tracked {
     let a = arg(args, 0);
     let target = as_i32(a);
-    let x = as_i32(arg(args, 1));
-    let y = as_i32(arg(args, 2));
     match op {
         601 => of_track(told(get_write_opt(track, target)), track),
-        602 => left(set_delay(track, target, x)),
-        603 => left(set_random(track, target, x)),
-        604 => left(set_range(track, target, x, y)),
-        605 => left(clear_range(track, target)),
+        602..=605 => {
+            let x = as_i32(arg(args, 1));
+            let y = as_i32(arg(args, 2));
+            left(set(op, track, target, x, y))
+        }
         611 => of_track(shape(a), track),
         _ => of_track(unknown(), track),
     }

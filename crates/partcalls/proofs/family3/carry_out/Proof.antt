@@ -32,27 +32,6 @@ answered-requires-2 c κs = search needs
 returns-2 : tie.Need-returns-2
 returns-2 c = search needs
 
-arg-requires : tie.Need-arg-requires
-arg-requires c κs = search needs
-
-slice-reshare-prefix-value : tie.Need-slice-reshare-prefix-value
-slice-reshare-prefix-value c = search needs
-
-slice-aggregate-value : tie.Need-slice-aggregate-value
-slice-aggregate-value c = sym (length-take-le _ _ (search needs))
-
-value-requires : tie.Need-value-requires
-value-requires c κs = search needs
-
-answered-requires-3 : tie.Need-answered-requires-3
-answered-requires-3 c κs = search needs
-
-same-length : tie.Need-same-length
-same-length c = search needs
-
-returns-3 : tie.Need-returns-3
-returns-3 c = search needs
-
 slice-relend-prefix-on-list : tie.Need-slice-relend-prefix-on-list
 slice-relend-prefix-on-list c = search needs
 
@@ -71,14 +50,14 @@ on-list-requires c κs = search needs
 settled-requires : tie.Need-settled-requires
 settled-requires c κs = search needs
 
+same-length : tie.Need-same-length
+same-length c = search needs
+
 same-length-2 : tie.Need-same-length-2
 same-length-2 c = search needs
 
-same-length-3 : tie.Need-same-length-3
-same-length-3 c = search needs
-
-returns-4 : tie.Need-returns-4
-returns-4 c = search needs
+returns-3 : tie.Need-returns-3
+returns-3 c = search needs
 
 pub carry-out-spec : {M : Type 1} → statement M
 carry-out-spec =
@@ -93,19 +72,12 @@ carry-out-spec =
     unknown-requires-2
     answered-requires-2
     returns-2
-    arg-requires
-    slice-reshare-prefix-value
-    slice-aggregate-value
-    value-requires
-    answered-requires-3
-    same-length
-    returns-3
     slice-relend-prefix-on-list
     slice-aggregate-on-list
     slice-relend-prefix-on-list-2
     slice-aggregate-on-list-2
     on-list-requires
     settled-requires
+    same-length
     same-length-2
-    same-length-3
-    returns-4)
+    returns-3)

@@ -1,11 +1,11 @@
 // The list as a call is lent it, and what a call that writes leaves.
+use crate::Called;
+use crate::Desk;
+use crate::MOST_RECORDS;
+use crate::answered;
+use crate::with_budget;
+use crate::with_count;
 use budget::Budget;
-use desk::Called;
-use desk::Desk;
-use desk::MOST_RECORDS;
-use desk::answered;
-use desk::with_budget;
-use desk::with_count;
 use eventlist::WIDTH;
 use script::answer::Answer;
 
