@@ -1,5 +1,6 @@
 -- What an accepted call on a target's option leaves passes the test of a track, so that the next call does not refuse it.
 --     delay-kept, random-kept, range-kept, cleared-kept, repeat-kept   each call
+--     repeat-lent   the track with the cycle table that is lent with it, where a list that is turned keeps its target
 use mathlib.Core.Path.{_≡_, refl, sym, ap, _∙_}
 use mathlib.Core.Bool.{Bool, true, false, cond, _&&_}
 use mathlib.Core.List.{List, [], _∷_, map}
@@ -24,7 +25,9 @@ use Rattle.tables.specs.Reservations.{okValues}
 use Rattle.tables.specs.Tables.{noteAt, noteKeys, okNotes, lone}
 use Rattle.state.specs.declared.Track.{Track}
 use Rattle.state.specs.declared.TrackAnswer.{TrackAnswer}
-use Rattle.state.specs.Tests.{okPlay, okOptions, okTables, okTrack}
+use Rattle.cycles.specs.declared.Cycle.{Cycle}
+use Rattle.state.specs.Tests.{okPlay, okOptions, okTables, okTrack, okLent}
+use Rattle.state.proofs.Lent.{lent-track, lent-cycles, lent-lone, lent-whole}
 use Rattle.state.proofs.Parts.{whole, track-play, track-params, track-layers, track-options, track-tables, track-cycles}
 use Rattle.state.proofs.Stored.{stored-notes, stored-waves, stored-sines, stored-lone}
 use Rattle.state.proofs.Answers.{code-of}
@@ -145,3 +148,13 @@ module _ (a : Track) (target : ℤ) (n : ℕ) where
       let b = withRepeating a target n in
       let q = sym (code-of a b m) ∙ z in
       ap (λ (r : TrackAnswer). okTrack (r .track)) (settled a b m q) ∙ repeating-well (usable a target (leb n 1) q) (allowed a target (leb n 1) q)
+
+  pub repeat-lent : (cs : List Cycle) → setRepeat a target n .code ≡ 0 → okLent a cs ≡ true → okLent (setRepeat a target n .track) cs ≡ true
+  unfolding setRepeat lone withOption
+  repeat-lent cs z e =
+      let m = targetRefusal a target (leb n 1) in
+      let b = withRepeating a target n in
+      let q = sym (code-of a b m) ∙ z in
+      let h = allowed a target (leb n 1) q in
+      ap (λ (r : TrackAnswer). okLent (r .track) cs) (settled a b m q)
+      ∙ lent-whole b cs (repeating-well (lent-track a cs e) h) (lent-cycles a cs e) (rw (keys (key target) n h (a .notes)) (lent-lone a cs e))
