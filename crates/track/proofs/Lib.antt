@@ -4,3 +4,6 @@ pub mod Refused
 pub mod RefusedLent
 pub mod Filled
 pub mod Sound
+pub mod SoundLent
+pub mod Series
+pub mod Numbers

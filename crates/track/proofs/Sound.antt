@@ -4,7 +4,8 @@
 --                    lent with it, which these calls do not see
 --     of-param       a parameter's methods
 --     of-layers      the layers' methods
---     of-makers      what is made of nothing: a track, a budget, a parameter, layers, an option, events
+--     of-events      the making of events: what is made may be stored
+--     of-makers      the other makers: what they make passes its test
 -- SoundLent has the calls that are lent a list, a budget or a table. A call that is refused leaves what it was given, so each is said of both.
 use mathlib.Core.Path.{_≡_, refl, sym, ap, subst, _∙_}
 use mathlib.Core.Bool.{Bool, true, false, cond, _&&_, true≢false}
@@ -15,29 +16,38 @@ use borrow.Author.Tests.{eqb-true, eqb-false}
 use lib.Dec.{eqb, leb, ltb}
 use lib.IntN.{ℤ, pos, _+ℤ_}
 use lib.ListN.{length}
-use Rattle.laws.specs.Lists.{all}
+use Rattle.laws.specs.Integers.{sized, inside}
+use Rattle.laws.specs.Keys.{distinct}
+use Rattle.laws.specs.Lists.{all, counted}
 use Rattle.laws.proofs.Ranges.{right}
 use Rattle.numbers.specs.Limits.{listLimit, layerLimit}
-use Rattle.numbers.specs.Ranges.{isTime, isNumber, isLength, isRandom, isChannel}
-use Rattle.counted.specs.Numbers.{numbers}
+use Rattle.numbers.specs.Ranges.{isTime, isStoredTime, isNumber, isLength, isRandom, isChannel, isController, isTimebase, isBytes}
+use Rattle.budget.specs.Budgets.{okBudget, unspent}
+use Rattle.events.specs.declared.Event.{Event}
+use Rattle.events.specs.declared.Made.{Made}
+use Rattle.events.specs.Kinds.{hasData}
+use Rattle.events.specs.Events.{okData, okEvent, noteEvent, voiceEvent, ccEvent, pitchBendEvent, pitchBendRangeEvent, metaEvent, directSmfEvent, sysexEvent, made, madeCc, refused as refusedEvent}
+use Rattle.events.proofs.Stored.{storable, storable-ok}
+use Rattle.counted.specs.Numbers.{numbers, okNumbers}
 use Rattle.counted.specs.Curves.{isCurve}
-use Rattle.reserved.specs.Reserve.{onNote, curveFrom, notesFrom}
+use Rattle.reserved.specs.Reserve.{onNote, curveFrom, notesFrom, okValues, okReserve}
 use Rattle.reserved.specs.Setting.{demand, lengthOf, restOf, cycleFor}
 use Rattle.params.specs.declared.NoteParam.{NoteParam}
 use Rattle.params.specs.declared.ParamAnswer.{ParamAnswer}
 use Rattle.params.specs.declared.ParamValue.{ParamValue}
-use Rattle.params.specs.Param.{okParam}
+use Rattle.params.specs.Param.{fresh, okLimits, okParam}
 use Rattle.params.specs.Calls as params
 use Rattle.params.proofs.Kept as kept
 use Rattle.params.proofs.Options as set
 use Rattle.layers.specs.declared.Layers.{Layers}
 use Rattle.layers.specs.declared.LayersAnswer.{LayersAnswer}
 use Rattle.layers.specs.declared.Velocity.{Velocity}
-use Rattle.layers.specs.Layers.{okLayers, valueSet, randomSet, reserveSet}
+use Rattle.layers.specs.Layers.{oneLayer, okLayer, okLayers, valueSet, randomSet, reserveSet}
 use Rattle.layers.specs.Calls as layers
 use Rattle.layers.proofs.Set as layered
 use Rattle.layers.proofs.Kept.{apply-kept}
 use Rattle.values.specs.declared.WriteOption.{WriteOption}
+use Rattle.values.specs.Options.{newOption, okOption}
 use Rattle.cycles.specs.declared.Cycle.{Cycle}
 use Rattle.tables.specs.declared.NoteTable.{NoteTable}
 use Rattle.tables.specs.declared.WaveTable.{WaveTable}
@@ -46,11 +56,12 @@ use Rattle.tables.specs.declared.CycleTable.{CycleTable}
 use Rattle.tables.specs.Tables.{okCycles, lone}
 use Rattle.state.specs.declared.Track.{Track}
 use Rattle.state.specs.declared.TrackAnswer.{TrackAnswer}
-use Rattle.state.specs.Track.{cyclesOf, withPlay, withParams, withLayers, withOptions, withTimepos, withChannel, withCcFreq, withPbFreq}
+use Rattle.state.specs.Track.{newTrack, cyclesOf, withPlay, withParams, withLayers, withOptions, withTimepos, withChannel, withCcFreq, withPbFreq}
 use Rattle.state.specs.Tests.{okTrack, okLent}
-use Rattle.state.specs.Calls.{answer, answered, setTimepos, setChannel, setCcFreq, setPbFreq}
+use Rattle.state.specs.Calls.{answer, answered, onChannel, newOf, setTimepos, setChannel, setCcFreq, setPbFreq}
 use Rattle.state.proofs.Parts.{track-layers}
 use Rattle.state.proofs.Lent.{lent-track, lent-cycles, lent-lone, lent-whole}
+use Rattle.state.proofs.New.{new-passes}
 use Rattle.state.proofs.Keeping.{timepos-kept, channel-kept, ccfreq-kept, pbfreq-kept}
 use Rattle.playing.specs.declared.TrackValue.{TrackValue}
 use Rattle.playing.specs.declared.TrackVelocity.{TrackVelocity}
@@ -60,6 +71,7 @@ use Rattle.playing.proofs.Codes.{value-code}
 use Rattle.playing.proofs.Refusals.{param-well}
 use Rattle.playing.proofs.Keeping.{param-kept, layers-kept, value-on-time-kept, value-on-note-kept}
 use Rattle.drawing.specs.Options as options
+use Rattle.drawing.proofs.Options.{option-well}
 use Rattle.drawing.proofs.Keeping as opted
 use Rattle.reserving.specs.Old.{removeCcOnNote, removeCcOnNoteWave}
 use Rattle.reserving.proofs.Older.{cc-note-passes, cc-wave-passes, cc-note-lent, cc-wave-lent}
@@ -209,6 +221,10 @@ by-code P a r k p f = go (eqb (r .code) 0) refl
     go true z = f (eqb-true (r .code) 0 z)
     go false z = subst (λ (x : TrackAnswer). P (x .track)) (sym (k (eqb-false (r .code) 0 z))) p
 
+new-option : okOption newOption ≡ true
+unfolding okOption isLength isRandom sized inside
+new-option = refl
+
 asked-zero : (ok : Bool) (n : ℕ) → asked ok n ≡ 0 → n ≡ 0
 unfolding asked
 asked-zero ok n z = go (eqb n 3) ok z
@@ -226,7 +242,7 @@ module _ (a : Track) (m : Filled (a .layers)) where
   same : Same a a
   same = record { notes = refl; waves = refl; sines = refl; cycles = refl; filled = m }
 
-  as-given : Follows a a
+  pub as-given : Follows a a
   as-given = follows same (λ e. e)
 
   left-follows : (n : ℕ) (b : Track) → (n ≡ 0 → Follows a b) → Follows a (answered n a b .track)
@@ -316,6 +332,14 @@ module _ (a : Track) (m : Filled (a .layers)) where
   option-follows : (target : ℤ) (o : WriteOption) (ok : Bool) → (let r = options.left a target o ok in TrackKept a r → (r .code ≡ 0 → okTrack (r .track) ≡ true) → Follows a (r .track))
   option-follows target o ok k f = follows (option-same target o ok) (λ e. by-code (λ (b : Track). okTrack b ≡ true) a _ k e f)
 
+  told-option : (target : ℤ) → okTrack a ≡ true → okOption (options.optionFor a target .option) ≡ true
+  unfolding options.optionFor
+  told-option target e = go (eqb (options.targetRefusal a target true) 0)
+    where
+      go : (t : Bool) → okOption (cond t (options.optionOf a target) newOption) ≡ true
+      go true = option-well a target e
+      go false = new-option
+
   repeat-filled : (target : ℤ) (n : ℕ) → Filled (options.setRepeat a target n .track .layers)
   unfolding options.setRepeat options.withOption
   repeat-filled target n = of-answered (λ (b : Track). Filled (b .layers)) _ a _ m (λ z. m)
@@ -371,6 +395,7 @@ pub record OfTrack (a : Track) : Type 0 where
   pub set-param-max : (w : ℕ) (x : ℤ) → Follows a (onParam w a (params.setMax (paramOf w a) x) .track)
   pub clear-param-max : (w : ℕ) → Follows a (onParam w a (params.clearMax (paramOf w a)) .track)
   pub set-param-repeat : (w n : ℕ) → Follows a (onParam w a (params.setRepeat (paramOf w a) n) .track)
+  pub get-write-opt : (target : ℤ) → okTrack a ≡ true → okOption (options.optionFor a target .option) ≡ true
   pub set-delay : (target x : ℤ) → Follows a (options.setDelay a target x .track)
   pub set-random : (target x : ℤ) → Follows a (options.setRandom a target x .track)
   pub set-range : (target low high : ℤ) → Follows a (options.setRange a target low high .track)
@@ -416,6 +441,7 @@ of-track a m =
       set-param-max = λ w x. param-follows a m w _ (p w .set-max x);
       clear-param-max = λ w. param-follows a m w _ (p w .clear-max);
       set-param-repeat = λ w n. param-follows a m w _ (p w .set-repeat n);
+      get-write-opt = told-option a m;
       set-delay = λ target x. option-follows a m target _ _ (r .set-delay target x) (opted.delay-kept a target x);
       set-random = λ target x. option-follows a m target _ _ (r .set-random target x) (opted.random-kept a target x);
       set-range = λ target low high. option-follows a m target _ _ (r .set-range target low high) (opted.range-kept a target low high);
@@ -423,4 +449,98 @@ of-track a m =
       set-repeat = repeat-follows a m;
       remove-cc-on-note = λ number. record { alone = cc-note-passes a number; lent = cc-note-lent a number; filled = note-filled a m number };
       remove-cc-on-note-wave = λ number. record { alone = cc-wave-passes a number; lent = cc-wave-lent a number; filled = wave-filled a m number };
+    }
+
+-- ---- the making of events
+pub made-sound : (store : ℕ) (e : Event) → made store e .code ≡ 0 → okEvent store (made store e .event) ≡ true
+made-sound store e = go (okEvent store e) refl
+  where
+    go : (t : Bool) → okEvent store e ≡ t → cond {A = Made} t (record { code = 0; event = e }) (refusedEvent 4) .code ≡ 0
+        → okEvent store (cond {A = Made} t (record { code = 0; event = e }) (refusedEvent 4) .event) ≡ true
+    go true q z = q
+    go false q z = absurd (omega (arith, z))
+
+-- an event without data lies in no store, and so may stand beside any
+anywhere : (store : ℕ) (e : Event) → hasData (e .kind) ≡ false → okEvent 0 e ≡ true → okEvent store e ≡ true
+unfolding okData
+anywhere store e n y =
+    let s = storable 0 e y in
+    storable-ok store e (record { kind = s .kind; time = s .time; channel = s .channel; v1 = s .v1; v2 = s .v2; v3 = s .v3; numbered = s .numbered; bytes = rw n (rw n at (s .bytes)) })
+
+module _ (store : ℕ) (e : Event) (n : hasData (e .kind) ≡ false) where
+  plain-sound : made 0 e .code ≡ 0 → okEvent store (made 0 e .event) ≡ true
+  plain-sound = go (okEvent 0 e) refl
+    where
+      go : (t : Bool) → okEvent 0 e ≡ t → cond {A = Made} t (record { code = 0; event = e }) (refusedEvent 4) .code ≡ 0
+          → okEvent store (cond {A = Made} t (record { code = 0; event = e }) (refusedEvent 4) .event) ≡ true
+      go true q z = anywhere store e n q
+      go false q z = absurd (omega (arith, z))
+
+  numbered-sound : (t : Bool) → cond t (made 0 e) (refusedEvent 2) .code ≡ 0 → okEvent store (cond t (made 0 e) (refusedEvent 2) .event) ≡ true
+  numbered-sound true z = plain-sound z
+  numbered-sound false z = absurd (omega (arith, z))
+
+pub record OfEvents (store : ℕ) : Type 0 where
+  pub note : (time channel number len vel : ℤ) → (let r = made 0 (noteEvent time channel number len vel) in r .code ≡ 0 → okEvent store (r .event) ≡ true)
+  pub voice : (time channel value : ℤ) → (let r = made 0 (voiceEvent time channel value) in r .code ≡ 0 → okEvent store (r .event) ≡ true)
+  pub cc : (time channel number value : ℤ) → (let r = madeCc time channel number value in r .code ≡ 0 → okEvent store (r .event) ≡ true)
+  pub pitch-bend : (time channel value : ℤ) → (let r = made 0 (pitchBendEvent time channel value) in r .code ≡ 0 → okEvent store (r .event) ≡ true)
+  pub pitch-bend-range : (time channel value : ℤ) → (let r = made 0 (pitchBendRangeEvent time channel value) in r .code ≡ 0 → okEvent store (r .event) ≡ true)
+  pub meta : (time v1 v2 v3 offset len : ℤ) → (let r = made store (metaEvent time v1 v2 v3 offset len) in r .code ≡ 0 → okEvent store (r .event) ≡ true)
+  pub direct-smf : (time offset len : ℤ) → (let r = made store (directSmfEvent time offset len) in r .code ≡ 0 → okEvent store (r .event) ≡ true)
+  pub sysex-raw : (time offset len : ℤ) → (let r = made store (sysexEvent time offset len) in r .code ≡ 0 → okEvent store (r .event) ≡ true)
+
+pub of-events : (store : ℕ) → OfEvents store
+unfolding hasData
+of-events store =
+    record {
+      note = λ time channel number len vel. plain-sound store (noteEvent time channel number len vel) refl;
+      voice = λ time channel value. plain-sound store (voiceEvent time channel value) refl;
+      cc = λ time channel number value. numbered-sound store (ccEvent time channel number value) refl (isController number);
+      pitch-bend = λ time channel value. plain-sound store (pitchBendEvent time channel value) refl;
+      pitch-bend-range = λ time channel value. plain-sound store (pitchBendRangeEvent time channel value) refl;
+      meta = λ time v1 v2 v3 offset len. made-sound store _;
+      direct-smf = λ time offset len. made-sound store _;
+      sysex-raw = λ time offset len. made-sound store _;
+    }
+
+-- ---- the other makers
+-- a track that is made may be used, with whatever table is lent: none of its records counts yet
+pub record Started (a : Track) : Type 0 where
+  pub alone : okTrack a ≡ true
+  pub lent : (cs : List Cycle) → okLent a cs ≡ true
+  pub filled : Filled (a .layers)
+
+module _ (b c : ℤ) (e : isTimebase b ≡ true) where
+  new-started : Started (newTrack b (onChannel c))
+  unfolding newTrack okCycles counted all lone distinct
+  new-started =
+      let t = new-passes b c e in
+      record { alone = t; lent = λ cs. lent-whole (newTrack b (onChannel c)) cs t refl refl; filled = refl }
+
+new-sound : (b c : ℤ) → newOf b c .code ≡ 0 → Started (newOf b c .track)
+unfolding newOf answered
+new-sound b c = go (isTimebase b) refl
+  where
+    go : (t : Bool) → isTimebase b ≡ t → answered (demand t) (newTrack (pos 0) (pos 0)) (newTrack b (onChannel c)) .code ≡ 0
+        → Started (answered (demand t) (newTrack (pos 0) (pos 0)) (newTrack b (onChannel c)) .track)
+    go true q z = new-started b c q
+    go false q z = absurd (omega (arith, z))
+
+pub record OfMakers : Type 0 where
+  pub track-new : (timebase channel : ℤ) → newOf timebase channel .code ≡ 0 → Started (newOf timebase channel .track)
+  pub budget-new : (seed maximum : ℕ) → isBytes maximum ≡ true → okBudget (unspent seed maximum) ≡ true
+  pub note-param-new : okParam fresh ≡ true
+  pub layers-new : (okLayers oneLayer ≡ true) × Filled oneLayer
+  pub write-option-new : okOption newOption ≡ true
+
+pub of-makers : OfMakers
+unfolding okBudget isBytes okParam okLimits okLayers okLayer okReserve okValues okNumbers okOption counted all isStoredTime isLength isRandom isNumber sized inside
+of-makers =
+    record {
+      track-new = new-sound;
+      budget-new = λ seed maximum e. rw e;
+      note-param-new = refl;
+      layers-new = (refl, refl);
+      write-option-new = new-option;
     }
