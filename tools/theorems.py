@@ -178,7 +178,7 @@ def main():
         else:
             path = f'{"own" if call.crate == "track" else call.crate}.{call.of + "." if call.of else ""}{call.name}'
             statement = ' '.join(proofs['Once'].fields[proofs['Once'].find(call, whole[1:2] + whole[:1] if call.of not in OWN else whole[:1])].split())
-            if statement != f'Once 𝓤 {path}.ended ({path}.clauses 𝓤 H A mem run)':
+            if statement != f'Once 𝓤 H A {path}.ended ({path}.clauses 𝓤 H A mem run) ({path}.spec 𝓤 H A mem run)':
                 faults.append(f'{call.title()}: {once} is not over the contract of {path}')
         sound = field_of(call, ('Sound', 'SoundLent'), whole[:2] if call.of != 'Track' else whole[1:2], named, True)
         if not sound:

@@ -2,14 +2,15 @@
 -- a series leaves (`sound-series`) is never refused for itself.
 use mathlib.Core.Path.{_≡_, refl, sym, ap, ap₂, _∙_}
 use mathlib.Core.Bool.{Bool, true, false, cond, _&&_, _||_}
-use mathlib.Core.List.{List}
+use mathlib.Core.List.{List, [], _∷_}
 use Prim.Native.Nat.{ℕ, _%_, _/_}
-use borrow.Author.Tests.{eqb-true, eq-eqb}
+use native.Mathlib.Omega.{arith}
+use borrow.Author.Tests.{eqb-true, eq-eqb, le-leb}
 use lib.Dec.{eqb, leb, ltb}
 use lib.IntN.{ℤ, pos}
 use lib.ListN.{length}
 use Rattle.laws.specs.Lists.{all}
-use Rattle.laws.proofs.Ranges.{left}
+use Rattle.laws.proofs.Ranges.{left, right}
 use Rattle.numbers.specs.Limits.{places, listLimit}
 use Rattle.numbers.specs.Ranges.{isTime, isNumber, isLength, isRandom, isChannel, isController, isTarget}
 use Rattle.counted.specs.Numbers.{numbers, okNumbers}
@@ -17,6 +18,7 @@ use Rattle.counted.specs.Curves.{isCurve}
 use Rattle.budget.specs.declared.Budget.{Budget}
 use Rattle.budget.specs.Budgets.{okBudget}
 use Rattle.events.specs.declared.Event.{Event}
+use Rattle.events.specs.Events.{okEvent}
 use Rattle.eventlist.specs.Rows.{recordWidth, rowsOf, eventsOf}
 use Rattle.eventlist.specs.Sound.{isList, okEvents}
 use Rattle.eventlist.specs.Bends.{bendsRefusal}
@@ -35,17 +37,19 @@ use Rattle.layers.specs.Layers.{okLayers}
 use Rattle.layers.specs.Calls as layers
 use Rattle.layers.specs.Calls.{layerDemand}
 use Rattle.values.specs.declared.WriteOption.{WriteOption}
+use Rattle.values.proofs.Options.{option-at, option-repeat}
 use Rattle.cycles.specs.declared.Cycle.{Cycle}
 use Rattle.cycles.specs.Due.{key}
+use Rattle.cycles.specs.Turns.{optionOf}
 use Rattle.tables.specs.declared.OnNoteSine.{OnNoteSine}
 use Rattle.tables.specs.Reservations.{okValues, okWave, okSine}
 use Rattle.writing.specs.declared.Outcome.{Outcome}
 use Rattle.state.specs.declared.Track.{Track}
 use Rattle.state.specs.Track.{withLayers}
-use Rattle.state.specs.Tests.{okTrack, okLent}
+use Rattle.state.specs.Tests.{okOptions, okTrack, okLent}
 use Rattle.state.specs.Calls.{answered}
 use Rattle.state.proofs.Answers.{code-of}
-use Rattle.state.proofs.Parts.{track-play, track-layers}
+use Rattle.state.proofs.Parts.{track-play, track-layers, track-options}
 use Rattle.state.proofs.Play.{play-time}
 use Rattle.state.proofs.Lent.{lent-track}
 use Rattle.playing.specs.declared.TrackVelocity.{TrackVelocity}
@@ -70,7 +74,7 @@ use Rattle.reserving.proofs.Answering as answering
 use Rattle.track.specs.Reading.{ccTrackRefusal, ccOfTrack}
 use Rattle.track.specs.Series.{Held, Sound, Call}
 use Rattle.track.specs.Series.{set-timepos, set-channel, set-cc-on-time-freq, set-pb-on-time-freq, calc-v-on-time, calc-t-on-time, calc-qlen-on-time, calc-o-on-time, calc-l-on-time, calc-v-on-note, calc-t-on-note, calc-qlen-on-note, calc-o-on-note, calc-l-on-note, set-v-sub, set-v-sub-random, set-v-sub-on-time, set-v-sub-on-cycle, set-v-sub-on-note, apply-v-sub, set-param-on-time, set-param-on-cycle, set-param-on-note, clear-param-reserve, set-param-random, set-param-range, clear-param-range, set-param-delay, set-param-max, clear-param-max, set-param-repeat, set-delay, set-random, set-range, clear-range, set-repeat, remove-cc-on-note, remove-cc-on-note-wave, get-write-opt, remove-reserve, set-on-note, set-on-note-wave, set-on-note-sine, set-on-cycle, remove-cc-on, set-cc-on-note, set-cc-on-note-wave, set-pb-on-note-wave, remove-pb-on-note-wave, write-on-time, write-cc-on-time, write-pb-on-time, write-sine, write-cc-on-note, write-cc-on-note-wave, write-cc-on-cycle, remove-pitch-bend-in-range, normalize, play-from, full-cut, events-sort, split-note-off, current-cc-value}
-use Rattle.track.specs.Numbers.{numberOf, own, targeted, reserved, drawn, timed, split}
+use Rattle.track.specs.Numbers.{numberOf, own, targeted, reserved, drawn, timed, split, stays}
 
 -- ---- tests that pass
 and-true : (x : Bool) → (x && true) ≡ x
@@ -104,6 +108,13 @@ asked-list v ok x = go (ltb listLimit (length v))
     go : (t : Bool) → asked ok (cond t 3 (demand x)) ≡ cond t 3 (demand (ok && x))
     go true = refl
     go false = asked-demand ok x
+
+-- events that may be stored fit a cut where those that it keeps stay in time
+all-stay : (store : ℕ) (c : Cut) (es : List Event) → all (okEvent store) es ≡ true → all (fitsCut store c) es ≡ all (stays c) es
+unfolding all fitsCut
+all-stay store c [] h = refl
+all-stay store c (e ∷ es) h =
+    ap₂ (λ (x y : Bool). x && stays c e && y) (left (okEvent store e) (all (okEvent store) es) h) (all-stay store c es (right (okEvent store e) (all (okEvent store) es) h))
 
 -- ---- a track
 module _ (a : Track) (e : okTrack a ≡ true) where
@@ -207,9 +218,22 @@ module _ (a : Track) (cs : List Cycle) (m : okLent a cs ≡ true) (n : length cs
     unfolding removeReserve
     remove-number = kept-number true true (λ (k : Kept). true) (λ (k : Kept). k) none
 
-    note-set-number : (v : List ℤ) → (let x = noteOf target (repeatOf a target) (numbers v) in setOnNote a (length cs) cs target v .code ≡ reserved target (isShort v) (okValues x) (noteRoom f))
-    unfolding setOnNote
-    note-set-number v = let x = noteOf target (repeatOf a target) (numbers v) in kept-number (isShort v) (okValues x) noteRoom (withNote x) refl
+    -- a list takes over the repeat of its target's option, which is 0 or 1
+    repeats-well : leb (repeatOf a target) 1 ≡ true
+    unfolding okOptions
+    repeats-well = option-repeat (optionOf (a .options) target) (option-at (a .options) (key target) (track-options a (lent-track a cs m)))
+
+    note-set-number : (v : List ℤ) → setOnNote a (length cs) cs target v .code ≡ reserved target (isShort v) (okNumbers (numbers v)) (noteRoom f)
+    unfolding setOnNote okValues
+    note-set-number v =
+        let x = noteOf target (repeatOf a target) (numbers v) in
+        kept-number (isShort v) (okValues x) noteRoom (withNote x) refl
+        ∙ only (isTarget target) (leb 0 (numbers v .count)) (leb (repeatOf a target) 1) (le-leb 0 (numbers v .count) (omega arith)) repeats-well
+      where
+        only : (t i r : Bool) → i ≡ true → r ≡ true
+            → _≡_ {A = ℕ} (cond t (cond (isShort v) (cond (t && i && r && okNumbers (numbers v)) (cond (noteRoom f) 0 6) 4) 3) 2) (cond t (cond (isShort v) (cond (okNumbers (numbers v)) (cond (noteRoom f) 0 6) 4) 3) 2)
+        only true i r p q = rw (p, q)
+        only false i r p q = refl
 
     wave-set-number : (mode : ℕ) (v : List ℤ) → setOnNoteWave a (length cs) cs target mode v .code ≡ reserved target (isShort v) (okWave (waveOf target mode (numbers v))) (waveRoom f)
     unfolding setOnNoteWave
@@ -293,9 +317,9 @@ module _ (h : Held) (s : Sound h) where
   unfolding bendsRefusal
   bends-code start end = rw (s .list, s .events) (ap demand (and-true (isTime start && isTime end)))
 
-  cut-code : (c : Cut) → cutRefusal (h .store) (h .list) (h .count) c ≡ demand (isTime (c .at) && all (fitsCut (h .store) c) (eventsOf (h .list) (h .count)))
-  unfolding cutRefusal
-  cut-code c = rw (s .list)
+  cut-code : (c : Cut) → cutRefusal (h .store) (h .list) (h .count) c ≡ demand (isTime (c .at) && all (stays c) (eventsOf (h .list) (h .count)))
+  unfolding cutRefusal okEvents
+  cut-code c = rw (s .list) (ap (λ (t : Bool). demand (isTime (c .at) && t)) (all-stay (h .store) c (eventsOf (h .list) (h .count)) (s .events)))
 
   sort-code : sortRefusal (h .store) (h .list) (h .count) ≡ 0
   unfolding sortRefusal

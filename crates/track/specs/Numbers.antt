@@ -1,27 +1,29 @@
 -- 01, "Numbers that come back": the number that each call of a series answers, and what is left of it where what is held passes the tests of 1 and 4
 -- (`Sound` in Series). Then 1 and 4 are given for the call's own arguments, or for an event time that would result, and for nothing that the library made.
-use mathlib.Core.Bool.{Bool, true, cond, _&&_, _||_}
+use mathlib.Core.Bool.{Bool, true, cond, not, _&&_, _||_}
 use mathlib.Core.List.{List}
 use Prim.Native.Nat.{ℕ, _/_, _%_}
 use lib.Dec.{eqb, leb, ltb}
 use lib.IntN.{ℤ, pos}
 use lib.ListN.{length}
 use Rattle.laws.specs.Lists.{all}
-use Rattle.numbers.specs.Ranges.{isTime, isNumber, isLength, isRandom, isChannel, isController, isTarget}
+use Rattle.numbers.specs.Ranges.{isTime, isNumber, isLength, isRandom, isChannel, isController, isTarget, isEventTime}
 use Rattle.counted.specs.Numbers.{numbers, okNumbers}
 use Rattle.counted.specs.Curves.{isCurve}
+use Rattle.events.specs.declared.Event.{Event}
 use Rattle.eventlist.specs.Rows.{recordWidth, rowsOf, eventsOf}
 use Rattle.eventlist.specs.Bends.{bendsTaken}
 use Rattle.sorting.specs.Sorting.{sortRefusal}
 use Rattle.notes.specs.Notes.{splitNotes, okEnd, splitTaken}
-use Rattle.cutting.specs.Cuts.{plain, whole, fitsCut, cutTaken}
+use Rattle.cutting.specs.declared.Cut.{Cut}
+use Rattle.cutting.specs.Cuts.{keeps, shifted, plain, whole, cutTaken}
 use Rattle.reserved.specs.Setting.{demand, listDemand, lengthOf, restOf}
 use Rattle.params.specs.Param.{isFlag}
 use Rattle.params.specs.Calls as params
 use Rattle.layers.specs.Calls as layers
 use Rattle.layers.specs.Calls.{layerDemand}
 use Rattle.cycles.specs.Due.{key}
-use Rattle.tables.specs.Reservations.{okValues, okWave, okSine}
+use Rattle.tables.specs.Reservations.{okWave, okSine}
 use Rattle.state.specs.Calls.{setTimepos, setChannel, setCcFreq, setPbFreq}
 use Rattle.playing.specs.Which.{velocity, gate, timing, octave, span, isParam, paramOf}
 use Rattle.playing.specs.Calls.{onParam, onLayers, summedUp, valueOnTime, valueOnNote}
@@ -31,7 +33,7 @@ use Rattle.noting.specs.Calls.{runOf, listAfter, noted}
 use Rattle.waving.specs.Calls.{afterNote, noteWritten}
 use Rattle.cycling.specs.Calls.{leftBy, cycledOf}
 use Rattle.reserving.specs.Clearing.{cleared}
-use Rattle.reserving.specs.Setting.{isShort, repeatOf, noteOf, waveOf, noteRoom, waveRoom, sineRoom, cycleRoom, onlyRemoves, removeReserve, setOnNote, setOnNoteWave, setOnNoteSine, setOnCycle}
+use Rattle.reserving.specs.Setting.{isShort, waveOf, noteRoom, waveRoom, sineRoom, cycleRoom, onlyRemoves, removeReserve, setOnNote, setOnNoteWave, setOnNoteSine, setOnCycle}
 use Rattle.reserving.specs.Old.{normal, removeCcOn, setCcOnNote, setCcOnNoteWave, setPbOnNoteWave, removePbOnNoteWave, removeCcOnNote, removeCcOnNoteWave}
 use Rattle.track.specs.Reading.{ccOfTrack}
 use Rattle.track.specs.Series.{Held, Call}
@@ -119,6 +121,10 @@ timed t full = cond (isTime t) (cond full 7 0) 4
 abbrev pub split : List ℤ → ℕ → List ℤ → ℕ
 split l count out = cond (all okEnd (eventsOf l count)) (cond (ltb (length out / recordWidth) (length (splitNotes (eventsOf l count)))) 7 0) 4
 
+-- an event that a cut keeps stays in time
+abbrev pub stays : Cut → Event → Bool
+stays c e = not (keeps c e) || isEventTime (shifted c e .time)
+
 unfoldable pub own : Call → Held → ℕ
 own (set-timepos x) h = demand (isTime x)
 own (set-channel x) h = demand (isChannel x)
@@ -160,12 +166,12 @@ own (remove-cc-on-note number) h = targeted (ccTarget number) true
 own (remove-cc-on-note-wave number) h = targeted (ccTarget number) true
 own (get-write-opt target) h = targeted target true
 own (remove-reserve target) h = reserved target true true true
-own (set-on-note target v) h = reserved target (isShort v) (okValues (noteOf target (repeatOf (h .track) target) (numbers v))) (noteRoom (cleared (h .track) (h .cycles) (key target)))
+own (set-on-note target v) h = reserved target (isShort v) (okNumbers (numbers v)) (noteRoom (cleared (h .track) (h .cycles) (key target)))
 own (set-on-note-wave target mode v) h = reserved target (isShort v) (okWave (waveOf target mode (numbers v))) (waveRoom (cleared (h .track) (h .cycles) (key target)))
 own (set-on-note-sine target sine) h = reserved target true (okSine sine && eqb (key (sine .target)) (key target)) (sineRoom (cleared (h .track) (h .cycles) (key target)))
 own (set-on-cycle target len v) h = reserved target (isShort v) (isLength len && okNumbers (numbers v)) (onlyRemoves len (numbers v) || cycleRoom (cleared (h .track) (h .cycles) (key target)))
 own (remove-cc-on number) h = reserved (ccTarget number) true true true
-own (set-cc-on-note number v) h = reserved (ccTarget number) (isShort v) (okValues (noteOf (ccTarget number) (repeatOf (h .track) (ccTarget number)) (numbers v))) (noteRoom (cleared (h .track) (h .cycles) (key (ccTarget number))))
+own (set-cc-on-note number v) h = reserved (ccTarget number) (isShort v) (okNumbers (numbers v)) (noteRoom (cleared (h .track) (h .cycles) (key (ccTarget number))))
 own (set-cc-on-note-wave number v) h = reserved (ccTarget number) (isShort v) (okWave (waveOf (ccTarget number) normal (numbers v))) (waveRoom (cleared (h .track) (h .cycles) (key (ccTarget number))))
 own (set-pb-on-note-wave big v) h = reserved (pbTarget big) (isShort v) (okWave (waveOf (pbTarget big) normal (numbers v))) (waveRoom (cleared (h .track) (h .cycles) (key (pbTarget big))))
 own remove-pb-on-note-wave h = reserved (pos 129) true true true
@@ -178,8 +184,8 @@ own (write-cc-on-note-wave start) h = timed start (ltb (length (rowsOf (h .list)
 own (write-cc-on-cycle until) h = timed until (ltb (length (rowsOf (h .list))) (length (leftBy (h .track) (h .cycles) until (h .budget) (eventsOf (h .list) (h .count)) .events)))
 own (remove-pitch-bend-in-range start end) h = demand (isTime start && isTime end)
 own normalize h = split (h .list) (h .count) (h .list)
-own (play-from cut) h = demand (isTime cut && all (fitsCut (h .store) (plain cut)) (eventsOf (h .list) (h .count)))
-own (full-cut cut) h = demand (isTime cut && all (fitsCut (h .store) (whole cut)) (eventsOf (h .list) (h .count)))
+own (play-from cut) h = demand (isTime cut && all (stays (plain cut)) (eventsOf (h .list) (h .count)))
+own (full-cut cut) h = demand (isTime cut && all (stays (whole cut)) (eventsOf (h .list) (h .count)))
 own events-sort h = 0
 own (split-note-off out) h = cond (eqb (length out % recordWidth) 0) (split (h .list) (h .count) out) 1
 own (current-cc-value x) h = cond (isController x) 0 2
