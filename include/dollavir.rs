@@ -4,13 +4,14 @@
 //   1 the list is not a whole number of records, its count is above it, or the cycle table has not sixteen
 //   2 a target or controller argument is none
 //   3 an argument list has more than 96 numbers
-//   4 a number is against its range or rule
+//   4 a number is against its range or rule, or a resulting event time is more than 2^42 from 0
 //   5 a layer above 15
 //   6 no place in a reservation table
 //   7 the list that is left holds more events than the buffer
 // A pointer must be valid, aligned and not null, also where its length is 0, and what two parameters point at
 // must not overlap. A slice is a pointer and the number of its elements. The event list has eight numbers a
-// record: kind, time, channel, v1, v2, v3, offset, length.
+// record: kind, time, channel, v1, v2, v3, offset, length. What a function does not read it does not test:
+// dollavir_write_cc_on_note and dollavir_write_cc_on_cycle only append, and ask no event of the list.
 
 #[repr(C)]
 #[derive(Clone, Copy, Debug, PartialEq, Eq)]

@@ -248,7 +248,7 @@ class Export:
         if self.answer == 'u32' or not (signed or alone):
             return
         said = f'{"c .before" if alone else "c"} .{d} .ensures'
-        start = 'c' + ' .before' * (5 if alone else 1 + any(t.startswith('&') for _, t in self.params))
+        start = 'c' + ' .before' * (5 if alone else 1 + any(t == '&[u8]' for _, t in self.params))
         if signed:
             said = f'rw ({", ".join(f"toZ-ofZ (s .fits .{n})" for n in signed)}) at ({said})'
         if self.answer in ('i32', 'i64'):

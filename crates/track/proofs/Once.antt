@@ -22,6 +22,7 @@ use contract.Monad.{Fun, conj, conjL, conjR, fact, factI, fact-use}
 use denote.Triple.Entry.{Args, Res}
 use denote.Triple.Spec.{Spec}
 use denote.Triple.Clauses.{Ended, Clauses, Lasts, atExit, closing}
+use Rattle.numbers.proofs as numbers
 use Rattle.budget.specs.declared.Budget.{Budget}
 use Rattle.budget.proofs as budget
 use Rattle.events.proofs as events
@@ -30,15 +31,19 @@ use Rattle.sorting.proofs as sorting
 use Rattle.notes.proofs as notes
 use Rattle.cutting.proofs as cutting
 use Rattle.sines.proofs as sines
+use Rattle.sines.proofs.Named.{kind-once}
 use Rattle.reserved.specs.declared.CycleValue.{CycleValue}
 use Rattle.reserved.specs.declared.CycleValue.the-variants.{Value, Nothing, Refused}
-use Rattle.reserved.specs.Cycle.{Said, said}
+use Rattle.laws.specs.Answers.{Said}
+use Rattle.reserved.specs.Cycle.{said}
 use Rattle.reserved.specs.Reserve.{firstOr}
 use Rattle.reserved.proofs as reserved
 use Rattle.params.proofs as params
 use Rattle.layers.proofs as layers
 use Rattle.values.proofs as values
 use Rattle.cycles.specs.declared.Cycle.{Cycle}
+use Rattle.cycles.proofs as cycles
+use Rattle.tables.proofs as tables
 use Rattle.state.proofs as state
 use Rattle.playing.proofs as playing
 use Rattle.drawing.proofs as drawing
@@ -284,6 +289,10 @@ module _ {M : Type 1} (𝓤 : URA M) (H : Heap 𝓤) (A : Atoms 𝓤) (mem : Mem
   pub record OfRecords : Type 2 where
     pub write-option-new : Once 𝓤 H A values.WriteOption.new.ended (values.WriteOption.new.clauses 𝓤 H A mem run) (values.WriteOption.new.spec 𝓤 H A mem run)
     pub budget-new : Once 𝓤 H A budget.Budget.new.ended (budget.Budget.new.clauses 𝓤 H A mem run) (budget.Budget.new.spec 𝓤 H A mem run)
+    pub on-note-sine-new : Once 𝓤 H A tables.OnNoteSine.new.ended (tables.OnNoteSine.new.clauses 𝓤 H A mem run) (tables.OnNoteSine.new.spec 𝓤 H A mem run)
+    pub on-cycle-time-new : Once 𝓤 H A reserved.OnCycleTime.new.ended (reserved.OnCycleTime.new.clauses 𝓤 H A mem run) (reserved.OnCycleTime.new.spec 𝓤 H A mem run)
+    pub cycle-none : Once 𝓤 H A cycles.Cycle.none.ended (cycles.Cycle.none.clauses 𝓤 H A mem run) (cycles.Cycle.none.spec 𝓤 H A mem run)
+    pub value-range : Once 𝓤 H A numbers.value_range.ended (numbers.value_range.clauses 𝓤 H A mem run) (numbers.value_range.spec 𝓤 H A mem run)
     pub on-cycle-time-calc : Once 𝓤 H A reserved.OnCycleTime.calc.ended (reserved.OnCycleTime.calc.clauses 𝓤 H A mem run) (reserved.OnCycleTime.calc.spec 𝓤 H A mem run)
     pub sine-type-from-i : Once 𝓤 H A sines.SineType.from_i.ended (sines.SineType.from_i.clauses 𝓤 H A mem run) (sines.SineType.from_i.spec 𝓤 H A mem run)
 
@@ -292,8 +301,12 @@ module _ {M : Type 1} (𝓤 : URA M) (H : Heap 𝓤) (A : Atoms 𝓤) (mem : Mem
       record {
         write-option-new = record { met = refl; once = λ o. same 𝓤 _ _ _ _ _ refl };
         budget-new = record { met = refl; once = λ o. same 𝓤 _ _ _ _ _ refl };
+        on-note-sine-new = record { met = refl; once = λ o. same 𝓤 _ _ _ _ _ refl };
+        on-cycle-time-new = record { met = refl; once = λ o. same 𝓤 _ _ _ _ _ refl };
+        cycle-none = record { met = refl; once = λ o. same 𝓤 _ _ _ _ _ refl };
+        value-range = record { met = refl; once = λ o. same 𝓤 _ _ _ _ _ refl };
         on-cycle-time-calc = record { met = refl; once = λ o. facts 𝓤 _ _ _ (λ p q. (said-once _ _ _ p q, refl)) };
-        sine-type-from-i = record { met = refl; once = λ o. same 𝓤 _ _ _ _ _ refl };
+        sine-type-from-i = record { met = refl; once = λ o. facts 𝓤 _ _ _ (λ p q. (kind-once _ _ _ p q, refl)) };
       }
 
   -- ---- the event list

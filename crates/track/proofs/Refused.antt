@@ -6,6 +6,7 @@
 --     of-param    a parameter's methods
 --     of-layers   the layers' methods
 --     of-events   the making of events, their size
+--     of-records  the making of a budget, of a sine, of a cycle over time
 --     of-cycle    a cycle's value
 -- One law carries all: an answer that a test chooses between an unchanged one and a refusal is unchanged (`chosen`).
 use mathlib.Core.Path.{_≡_, refl, sym, ap}
@@ -15,7 +16,10 @@ use Prim.Native.Nat.{ℕ}
 use borrow.Author.Tests.{ne-eqb}
 use lib.Dec.{eqb}
 use lib.IntN.{ℤ, pos}
-use Rattle.numbers.specs.Ranges.{isTime, isNumber, isController}
+use Rattle.numbers.specs.Ranges.{isTime, isNumber, isController, isTarget, isBytes}
+use Rattle.budget.specs.declared.BudgetAnswer.{BudgetAnswer}
+use Rattle.budget.specs.Budgets.{unspent, newBudget}
+use Rattle.counted.specs.Numbers.{numbers}
 use Rattle.events.specs.declared.Event.{Event}
 use Rattle.events.specs.declared.Made.{Made}
 use Rattle.events.specs.declared.Size.{Size}
@@ -23,9 +27,12 @@ use Rattle.events.specs.Kinds.{bytesOf}
 use Rattle.events.specs.Events.{zeroEvent, okEvent, refused, noteEvent, voiceEvent, ccEvent, pitchBendEvent, pitchBendRangeEvent, metaEvent, directSmfEvent, sysexEvent, made, madeCc, sizeOf}
 use Rattle.reserved.specs.declared.Taken.{Taken}
 use Rattle.reserved.specs.declared.OnCycleTime.{OnCycleTime}
+use Rattle.reserved.specs.declared.CycleTimeAnswer.{CycleTimeAnswer}
 use Rattle.reserved.specs.declared.CycleValue.{CycleValue}
 use Rattle.reserved.specs.declared.CycleValue.the-variants.{Value, Nothing, Refused}
 use Rattle.reserved.specs.Cycle.{said, calcOf}
+use Rattle.reserved.specs.Cycle as timed
+use Rattle.reserved.specs.Setting.{demand, listDemand, cycleTime, noCycleTime, newCycleTime}
 use Rattle.params.specs.declared.NoteParam.{NoteParam}
 use Rattle.params.specs.declared.ParamAnswer.{ParamAnswer}
 use Rattle.params.specs.declared.ParamValue.{ParamValue}
@@ -40,6 +47,9 @@ use Rattle.layers.specs.Layers.{okLayers, changed}
 use Rattle.layers.specs.Calls as layers
 use Rattle.values.specs.declared.WriteOption.{WriteOption}
 use Rattle.values.specs.Options.{newOption}
+use Rattle.tables.specs.declared.SineAnswer.{SineAnswer}
+use Rattle.tables.specs.Reservations.{okSine}
+use Rattle.tables.specs.Tables.{noSine, sineOf, newSine}
 use Rattle.state.specs.declared.Track.{Track}
 use Rattle.state.specs.declared.TrackAnswer.{TrackAnswer}
 use Rattle.state.specs.Track.{newTrack, withLayers}
@@ -100,6 +110,15 @@ NoOption = Unchanged (λ (r : OptionAnswer). r .code) (λ n. record { code = n; 
 
 abbrev pub NoEvent : Made → Type 0
 NoEvent = Unchanged (λ (r : Made). r .code) (λ n. record { code = n; event = zeroEvent })
+
+abbrev pub NoBudget : BudgetAnswer → Type 0
+NoBudget = Unchanged (λ (r : BudgetAnswer). r .code) (λ n. record { code = n; budget = unspent 0 0 })
+
+abbrev pub NoSine : SineAnswer → Type 0
+NoSine = Unchanged (λ (r : SineAnswer). r .code) (λ n. record { code = n; sine = noSine })
+
+abbrev pub NoCycleTime : CycleTimeAnswer → Type 0
+NoCycleTime = Unchanged (λ (r : CycleTimeAnswer). r .code) (λ n. record { code = n; cycle = noCycleTime })
 
 abbrev pub NoSize : Size → Type 0
 NoSize = Unchanged (λ (r : Size). r .code) (λ n. record { code = n; bytes = 0 })
@@ -354,6 +373,34 @@ of-events store =
       sysex-raw = λ time offset len. no-event store _;
       estimated-midi-bytes = no-size store;
     }
+
+-- ---- other records: refused, each is all zeros
+no-budget : (seed maximum : ℕ) → NoBudget (newBudget seed maximum)
+unfolding newBudget
+no-budget seed maximum =
+    chosen (λ (r : BudgetAnswer). r .code) (λ m. record { code = m; budget = unspent 0 0 }) (isBytes maximum) 4
+    (record { code = 0; budget = unspent seed maximum }) (λ h. absurd (h refl)) refl
+
+no-sine : (target : ℤ) (shape : ℕ) (low high len times : ℤ) → NoSine (newSine target shape low high len times)
+unfolding newSine
+no-sine target shape low high len times =
+    let s = sineOf target shape low high len times in
+    chosen (λ (r : SineAnswer). r .code) (λ m. record { code = m; sine = noSine }) (isTarget target) 2 (cond (okSine s) (record { code = 0; sine = s }) (record { code = 4; sine = noSine }))
+    (chosen (λ (r : SineAnswer). r .code) (λ m. record { code = m; sine = noSine }) (okSine s) 4 (record { code = 0; sine = s }) (λ h. absurd (h refl)) refl) refl
+
+no-cycle-time : (start len : ℤ) (v : List ℤ) → NoCycleTime (newCycleTime start len v)
+unfolding newCycleTime
+no-cycle-time start len v =
+    numbered (λ (r : CycleTimeAnswer). r .code) (λ m. record { code = m; cycle = noCycleTime })
+    (listDemand v (demand (timed.okCycle (cycleTime start len (numbers v))))) (record { code = 0; cycle = cycleTime start len (numbers v) }) refl refl
+
+pub record OfRecords : Type 0 where
+  pub budget-new : (seed maximum : ℕ) → NoBudget (newBudget seed maximum)
+  pub on-note-sine-new : (target : ℤ) (shape : ℕ) (low high len times : ℤ) → NoSine (newSine target shape low high len times)
+  pub on-cycle-time-new : (start len : ℤ) (v : List ℤ) → NoCycleTime (newCycleTime start len v)
+
+pub of-records : OfRecords
+of-records = record { budget-new = no-budget; on-note-sine-new = no-sine; on-cycle-time-new = no-cycle-time }
 
 -- ---- a cycle's value: the answer is an enum, whose number `said` gives
 pub of-cycle : (c : OnCycleTime) (timepos : ℤ) (r : CycleValue) → said r ≡ calcOf c timepos → (said r .number ≡ 0 → ⊥) → r ≡ Refused

@@ -12,9 +12,8 @@ use lib.Dec.{eqb}
 use lib.IntN.{ℤ}
 use lib.ListN.{length}
 use Rattle.numbers.specs.Limits.{places}
-use Rattle.numbers.specs.Ranges.{isBytes}
 use Rattle.budget.specs.declared.Budget.{Budget}
-use Rattle.budget.specs.Budgets.{unspent}
+use Rattle.budget.specs.Budgets.{newBudget}
 use Rattle.eventlist.specs.Sound.{isList, okEvents}
 use Rattle.eventlist.proofs.Sound.{SoundList}
 use Rattle.notes.specs.Notes.{splitTaken, splitLeft}
@@ -150,17 +149,17 @@ unfolding afterAll
 sound-series [] h s = s
 sound-series (c ∷ cs) h s = sound-series cs (after c h) (sound-next c h s)
 
--- ---- what the makers hand out: a track that was accepted, a budget whose maximum is in range, sixteen cycle records, whatever is in them, and whole records
+-- ---- what the makers hand out: a track and a budget that were accepted, sixteen cycle records, whatever is in them, and whole records
 -- of which none counts
 module _ (timebase channel : ℤ) (cs : List Cycle) (seed maximum : ℕ) (l : List ℤ) (store : ℕ) where
   abbrev pub made : Held
-  made = record { track = newOf timebase channel .track; cycles = cs; budget = unspent seed maximum; list = l; count = 0; store = store }
+  made = record { track = newOf timebase channel .track; cycles = cs; budget = newBudget seed maximum .budget; list = l; count = 0; store = store }
 
-  pub made-sound : newOf timebase channel .code ≡ 0 → length cs ≡ places → isBytes maximum ≡ true → isList l 0 ≡ true → Sound made
+  pub made-sound : newOf timebase channel .code ≡ 0 → length cs ≡ places → newBudget seed maximum .code ≡ 0 → isList l 0 ≡ true → Sound made
   unfolding okEvents all
   made-sound a n m e =
       let t = sound.of-makers .track-new timebase channel a in
       record { track = t .lent cs; sixteen = n; layers = t .filled; budget = sound.of-makers .budget-new seed maximum m; list = e; events = refl }
 
-  pub never-refused : newOf timebase channel .code ≡ 0 → length cs ≡ places → isBytes maximum ≡ true → isList l 0 ≡ true → (calls : List Call) → Sound (afterAll calls made)
+  pub never-refused : newOf timebase channel .code ≡ 0 → length cs ≡ places → newBudget seed maximum .code ≡ 0 → isList l 0 ≡ true → (calls : List Call) → Sound (afterAll calls made)
   never-refused a n m e calls = sound-series calls made (made-sound a n m e)

@@ -15,14 +15,15 @@ use native.Mathlib.Omega.{arith}
 use borrow.Author.Tests.{eqb-true, eqb-false}
 use lib.Dec.{eqb, leb, ltb}
 use lib.IntN.{ℤ, pos, _+ℤ_}
-use lib.ListN.{length}
+use lib.ListN.{length, replicate}
 use Rattle.laws.specs.Integers.{sized, inside}
 use Rattle.laws.specs.Keys.{distinct}
 use Rattle.laws.specs.Lists.{all, counted}
 use Rattle.laws.proofs.Ranges.{right}
-use Rattle.numbers.specs.Limits.{listLimit, layerLimit}
-use Rattle.numbers.specs.Ranges.{isTime, isStoredTime, isNumber, isLength, isRandom, isChannel, isController, isTimebase, isBytes}
-use Rattle.budget.specs.Budgets.{okBudget, unspent}
+use Rattle.numbers.specs.Limits.{listLimit, layerLimit, places}
+use Rattle.numbers.specs.Ranges.{isTime, isStoredTime, isNumber, isLength, isRandom, isChannel, isController, isTimebase, isBytes, isTarget}
+use Rattle.budget.specs.declared.BudgetAnswer.{BudgetAnswer}
+use Rattle.budget.specs.Budgets.{okBudget, unspent, newBudget}
 use Rattle.events.specs.declared.Event.{Event}
 use Rattle.events.specs.declared.Made.{Made}
 use Rattle.events.specs.Kinds.{hasData}
@@ -31,7 +32,9 @@ use Rattle.events.proofs.Stored.{storable, storable-ok}
 use Rattle.counted.specs.Numbers.{numbers, okNumbers}
 use Rattle.counted.specs.Curves.{isCurve}
 use Rattle.reserved.specs.Reserve.{onNote, curveFrom, notesFrom, okValues, okReserve}
-use Rattle.reserved.specs.Setting.{demand, lengthOf, restOf, cycleFor}
+use Rattle.reserved.specs.declared.OnCycleTime.{OnCycleTime}
+use Rattle.reserved.specs.Cycle as timed
+use Rattle.reserved.specs.Setting.{demand, lengthOf, restOf, cycleFor, cycleTime, timeAnswer, newCycleTime}
 use Rattle.params.specs.declared.NoteParam.{NoteParam}
 use Rattle.params.specs.declared.ParamAnswer.{ParamAnswer}
 use Rattle.params.specs.declared.ParamValue.{ParamValue}
@@ -49,11 +52,15 @@ use Rattle.layers.proofs.Kept.{apply-kept}
 use Rattle.values.specs.declared.WriteOption.{WriteOption}
 use Rattle.values.specs.Options.{newOption, okOption}
 use Rattle.cycles.specs.declared.Cycle.{Cycle}
+use Rattle.cycles.specs.Rules.{noCycle}
+use Rattle.tables.specs.declared.OnNoteSine.{OnNoteSine}
+use Rattle.tables.specs.declared.SineAnswer.{SineAnswer}
+use Rattle.tables.specs.Reservations.{okSine}
 use Rattle.tables.specs.declared.NoteTable.{NoteTable}
 use Rattle.tables.specs.declared.WaveTable.{WaveTable}
 use Rattle.tables.specs.declared.SineTable.{SineTable}
 use Rattle.tables.specs.declared.CycleTable.{CycleTable}
-use Rattle.tables.specs.Tables.{okCycles, lone}
+use Rattle.tables.specs.Tables.{okCycles, lone, noSine, sineOf, newSine}
 use Rattle.state.specs.declared.Track.{Track}
 use Rattle.state.specs.declared.TrackAnswer.{TrackAnswer}
 use Rattle.state.specs.Track.{newTrack, cyclesOf, withPlay, withParams, withLayers, withOptions, withTimepos, withChannel, withCcFreq, withPbFreq}
@@ -527,19 +534,65 @@ new-sound b c = go (isTimebase b) refl
     go true q z = new-started b c q
     go false q z = absurd (omega (arith, z))
 
+new-budget : (seed maximum : ℕ) → newBudget seed maximum .code ≡ 0 → okBudget (newBudget seed maximum .budget) ≡ true
+unfolding newBudget okBudget isBytes
+new-budget seed maximum = go (isBytes maximum) refl
+  where
+    made : Bool → BudgetAnswer
+    made t = cond t (record { code = 0; budget = unspent seed maximum }) (record { code = 4; budget = unspent 0 0 })
+
+    go : (t : Bool) → isBytes maximum ≡ t → made t .code ≡ 0 → okBudget (made t .budget) ≡ true
+    go true q z = rw q
+    go false q z = absurd (omega (arith, z))
+
+new-sine : (target : ℤ) (shape : ℕ) (low high len times : ℤ) → newSine target shape low high len times .code ≡ 0 → okSine (newSine target shape low high len times .sine) ≡ true
+unfolding newSine
+new-sine target shape low high len times = go (isTarget target) (okSine s) refl
+  where
+    s : OnNoteSine
+    s = sineOf target shape low high len times
+
+    made : Bool → Bool → SineAnswer
+    made p q = cond p (cond q (record { code = 0; sine = s }) (record { code = 4; sine = noSine })) (record { code = 2; sine = noSine })
+
+    go : (p q : Bool) → okSine s ≡ q → made p q .code ≡ 0 → okSine (made p q .sine) ≡ true
+    go true true e z = e
+    go true false e z = absurd (omega (arith, z))
+    go false q e z = absurd (omega (arith, z))
+
+new-cycle-time : (start len : ℤ) (v : List ℤ) → newCycleTime start len v .code ≡ 0 → timed.okCycle (newCycleTime start len v .cycle) ≡ true
+unfolding newCycleTime
+new-cycle-time start len v = go (ltb listLimit (length v)) (timed.okCycle c) refl
+  where
+    c : OnCycleTime
+    c = cycleTime start len (numbers v)
+
+    go : (p q : Bool) → timed.okCycle c ≡ q → timeAnswer (cond p 3 (cond q 0 4)) c .code ≡ 0 → timed.okCycle (timeAnswer (cond p 3 (cond q 0 4)) c .cycle) ≡ true
+    go false true e z = e
+    go false false e z = absurd (omega (arith, z))
+    go true q e z = absurd (omega (arith, z))
+
 pub record OfMakers : Type 0 where
   pub track-new : (timebase channel : ℤ) → newOf timebase channel .code ≡ 0 → Started (newOf timebase channel .track)
-  pub budget-new : (seed maximum : ℕ) → isBytes maximum ≡ true → okBudget (unspent seed maximum) ≡ true
+  pub budget-new : (seed maximum : ℕ) → newBudget seed maximum .code ≡ 0 → okBudget (newBudget seed maximum .budget) ≡ true
+  pub on-note-sine-new : (target : ℤ) (shape : ℕ) (low high len times : ℤ) → newSine target shape low high len times .code ≡ 0
+      → okSine (newSine target shape low high len times .sine) ≡ true
+  pub on-cycle-time-new : (start len : ℤ) (v : List ℤ) → newCycleTime start len v .code ≡ 0 → timed.okCycle (newCycleTime start len v .cycle) ≡ true
+  -- a table in which no place is used
+  pub cycle-none : okCycles (record { count = 0; items = replicate places noCycle }) ≡ true
   pub note-param-new : okParam fresh ≡ true
   pub layers-new : (okLayers oneLayer ≡ true) × Filled oneLayer
   pub write-option-new : okOption newOption ≡ true
 
 pub of-makers : OfMakers
-unfolding okBudget isBytes okParam okLimits okLayers okLayer okReserve okValues okNumbers okOption counted all isStoredTime isLength isRandom isNumber sized inside
+unfolding okCycles okParam okLimits okLayers okLayer okReserve okValues okNumbers okOption counted all isStoredTime isLength isRandom isNumber sized inside
 of-makers =
     record {
       track-new = new-sound;
-      budget-new = λ seed maximum e. rw e;
+      budget-new = new-budget;
+      on-note-sine-new = new-sine;
+      on-cycle-time-new = new-cycle-time;
+      cycle-none = refl;
       note-param-new = refl;
       layers-new = (refl, refl);
       write-option-new = new-option;

@@ -36,10 +36,11 @@ use Rattle.cutting.proofs.Sound.{cut-sound}
 use Rattle.layers.specs.declared.Layers.{Layers}
 use Rattle.cycles.specs.declared.Cycle.{Cycle}
 use Rattle.cycles.specs.Due.{key}
+use Rattle.cycles.specs.Rules.{noCycle}
 use Rattle.tables.specs.declared.OnNoteSine.{OnNoteSine}
 use Rattle.tables.specs.declared.NoteTable.{NoteTable}
 use Rattle.tables.specs.Reservations.{okValues, okWave, okSine}
-use Rattle.tables.specs.Tables.{noCycle, cycleAt, cyclesLeft, cyclesWithout, cyclesWith}
+use Rattle.tables.specs.Tables.{cycleAt, cyclesLeft, cyclesWithout, cyclesWith}
 use Rattle.writing.specs.declared.Outcome.{Outcome}
 use Rattle.state.specs.declared.Track.{Track}
 use Rattle.state.specs.declared.TrackAnswer.{TrackAnswer}

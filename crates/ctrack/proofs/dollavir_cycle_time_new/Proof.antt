@@ -8,7 +8,7 @@ new-requires : tie.Need-new-requires
 new-requires c κs = search needs
 
 returns : tie.Need-returns
-returns c = let s = c .before .before in rw (toZ-ofZ (s .fits .start), toZ-ofZ (s .fits .len)) at (c .new .ensures)
+returns c = let s = c .before in rw (toZ-ofZ (s .fits .start), toZ-ofZ (s .fits .len)) at (c .new .ensures)
 
 pub dollavir-cycle-time-new-spec : {M : Type 1} → statement M
 dollavir-cycle-time-new-spec = tie.close (tie.spec new-requires returns)
