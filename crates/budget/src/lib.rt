@@ -1,6 +1,7 @@
 // The budget: the random seed and the bytes that events may take, in one record that every write is handed and
 // hands back, advanced. A write first steps the seed, then asks for its bytes; one that does not fit sets the
-// flag `over` and takes none. Nothing here asks anything of the record: `budget_ok` tests one that comes from outside.
+// flag `over` and takes none. A new budget is tested as it is made, one that comes from outside by `budget_ok`; the rest
+// here asks nothing of the record.
 ghost use mathlib.Core.Path.{_≡_};
 ghost use Prim.Native.Nat.{_<_, _^_};
 ghost use lib.Signed.{mag};

@@ -8,5 +8,4 @@ pub mod Composing
 pub mod Asking
 pub mod Refusing
 pub mod Promises
-pub mod Marked
 pub mod Sound

@@ -2,4 +2,3 @@ pub mod Size
 pub mod Join
 pub mod Start
 pub mod Cutting
-pub mod Points

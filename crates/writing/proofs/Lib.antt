@@ -2,7 +2,6 @@ pub mod Calling
 pub mod Origins
 pub mod Writes
 pub mod Drawing
-pub mod Cases
 pub mod Shifting
 pub mod Every
 pub mod Promises
