@@ -10,7 +10,7 @@ use borrow.Author.Tests.{leb-true, leb-false, le-leb, eqb-true, eq-eqb, ne-eqb}
 use lib.Dec.{eqb, leb, ltb}
 use lib.IntN.{ℤ, pos, negsuc, _+ℤ_, +ℤ-idr}
 use lib.Signed.{leZ}
-use Rattle.laws.specs.Integers.{eqZ, inside}
+use Rattle.laws.specs.Integers.{eqZ, inside, cut}
 use Rattle.laws.specs.Lists.{all, unless}
 use Rattle.laws.specs.Keys.{distinct}
 use Rattle.laws.proofs.Ranges.{left, right}
@@ -20,7 +20,7 @@ use Rattle.events.specs.declared.Event.{Event}
 use Rattle.events.specs.Kinds.{controlChange, pitchBend}
 use Rattle.values.specs.Value.{kindOf, controllerEvent, bendEvent, eventFor, startOf, timeOf, eventOfOffer}
 use Rattle.cycles.specs.declared.Cycle.{Cycle}
-use Rattle.cycles.specs.Due.{DueWrite, writeOf, advanced, run, dueCount, takes, key, only}
+use Rattle.cycles.specs.Due.{DueWrite, writeOf, advanced, run, dueCount, takes, key, only, codeOf}
 use Rattle.cycles.specs.Rules.{okCycle, keysOf, okTable}
 use Rattle.cycles.specs.Calls.{limit, share, made, eventsOf}
 use Rattle.cycles.specs.Turns.{turn, optionOf}
@@ -54,10 +54,15 @@ own-by m n true false p q time channel v = sym (ne-eqb (min m 128) (min n 128) (
 own-by m n false true p q time channel v = sym (ne-eqb (min m 128) (min n 128) (λ h. omega (arith, h, leb-false m 127 p, leb-true n 127 q)))
 own-by m n false false p q time channel v = sym (eq-eqb (min m 128) (min n 128) (omega (arith, leb-false m 127 p, leb-false n 127 q)))
 
+-- a target's code is its number
+code-is : (z : ℤ) → isTarget z ≡ true → codeOf z ≡ cut z
+unfolding codeOf
+code-is z e = rw e
+
 is-own : (target z : ℤ) → isTarget target ≡ true → isTarget z ≡ true → (time channel v : ℤ) → belongs target (eventFor z time channel v) ≡ eqb (key target) (key z)
 unfolding belongs eventFor kindOf isTarget isController inside
 is-own (pos m) (pos n) p q time channel v =
-    rw (le-leb 0 m (omega arith), le-leb 0 n (omega arith)) (own-by m n (leb m 127) (leb n 127) refl refl time channel v)
+    rw (code-is (pos m) p, code-is (pos n) q, le-leb 0 m (omega arith), le-leb 0 n (omega arith)) (own-by m n (leb m 127) (leb n 127) refl refl time channel v)
 is-own (pos m) (negsuc n) p q time channel v = absurd (true≢false (sym q))
 is-own (negsuc m) z p q time channel v = absurd (true≢false (sym p))
 
