@@ -1,5 +1,5 @@
--- Where what is held passes the tests of 1 and 4, the number that a call answers asks its arguments, a time that would result, and room: `asks-alone`. So what
--- a series leaves (`sound-series`) is never refused for itself.
+-- Where what is held passes the tests of 1 and 4, the number that a call answers asks its arguments, a time that would result, and room: `asks-alone`. So
+-- from the makers on, after any series of calls, no call is refused with 1 or 4 for something that the library made: `made-asks-alone`.
 use mathlib.Core.Path.{_≡_, refl, sym, ap, ap₂, _∙_}
 use mathlib.Core.Bool.{Bool, true, false, cond, _&&_, _||_}
 use mathlib.Core.List.{List, [], _∷_}
@@ -16,7 +16,7 @@ use Rattle.numbers.specs.Ranges.{isTime, isNumber, isLength, isRandom, isChanne
 use Rattle.counted.specs.Numbers.{numbers, okNumbers}
 use Rattle.counted.specs.Curves.{isCurve}
 use Rattle.budget.specs.declared.Budget.{Budget}
-use Rattle.budget.specs.Budgets.{okBudget}
+use Rattle.budget.specs.Budgets.{newBudget, okBudget}
 use Rattle.events.specs.declared.Event.{Event}
 use Rattle.events.specs.Events.{okEvent}
 use Rattle.eventlist.specs.Rows.{recordWidth, rowsOf, eventsOf}
@@ -47,7 +47,7 @@ use Rattle.writing.specs.declared.Outcome.{Outcome}
 use Rattle.state.specs.declared.Track.{Track}
 use Rattle.state.specs.Track.{withLayers}
 use Rattle.state.specs.Tests.{okOptions, okTrack, okLent}
-use Rattle.state.specs.Calls.{answered}
+use Rattle.state.specs.Calls.{newOf, answered}
 use Rattle.state.proofs.Answers.{code-of}
 use Rattle.state.proofs.Parts.{track-play, track-layers, track-options}
 use Rattle.state.proofs.Play.{play-time}
@@ -72,9 +72,10 @@ use Rattle.reserving.specs.Setting.{isShort, repeatOf, noteOf, waveOf, cycleOf,
 use Rattle.reserving.specs.Old.{normal, aloneRefusal, removeCcOnNote, removeCcOnNoteWave}
 use Rattle.reserving.proofs.Answering as answering
 use Rattle.track.specs.Reading.{ccTrackRefusal, ccOfTrack}
-use Rattle.track.specs.Series.{Held, Sound, Call}
+use Rattle.track.specs.Series.{Held, Sound, Call, afterAll}
 use Rattle.track.specs.Series.{set-timepos, set-channel, set-cc-on-time-freq, set-pb-on-time-freq, calc-v-on-time, calc-t-on-time, calc-qlen-on-time, calc-o-on-time, calc-l-on-time, calc-v-on-note, calc-t-on-note, calc-qlen-on-note, calc-o-on-note, calc-l-on-note, set-v-sub, set-v-sub-random, set-v-sub-on-time, set-v-sub-on-cycle, set-v-sub-on-note, apply-v-sub, set-param-on-time, set-param-on-cycle, set-param-on-note, clear-param-reserve, set-param-random, set-param-range, clear-param-range, set-param-delay, set-param-max, clear-param-max, set-param-repeat, set-delay, set-random, set-range, clear-range, set-repeat, remove-cc-on-note, remove-cc-on-note-wave, get-write-opt, remove-reserve, set-on-note, set-on-note-wave, set-on-note-sine, set-on-cycle, remove-cc-on, set-cc-on-note, set-cc-on-note-wave, set-pb-on-note-wave, remove-pb-on-note-wave, write-on-time, write-cc-on-time, write-pb-on-time, write-sine, write-cc-on-note, write-cc-on-note-wave, write-cc-on-cycle, remove-pitch-bend-in-range, normalize, play-from, full-cut, events-sort, split-note-off, current-cc-value}
 use Rattle.track.specs.Numbers.{numberOf, own, targeted, reserved, drawn, timed, split, stays}
+use Rattle.track.proofs.Series.{made, made-stays-sound}
 
 -- ---- tests that pass
 and-true : (x : Bool) → (x && true) ≡ x
@@ -401,3 +402,10 @@ asks-alone (full-cut cut) h s = cut-code h s (whole cut)
 asks-alone events-sort h s = sort-code h s
 asks-alone (split-note-off out) h s = split-code h s out
 asks-alone (current-cc-value x) h s = cc-code h s x
+
+-- ---- from the makers on, after any series of calls
+pub made-asks-alone : (timebase channel : ℤ) (cs : List Cycle) (seed maximum : ℕ) (l : List ℤ) (store : ℕ)
+    → newOf timebase channel .code ≡ 0 → length cs ≡ places → newBudget seed maximum .code ≡ 0 → isList l 0 ≡ true
+    → (calls : List Call) (c : Call) → (let h = afterAll calls (made timebase channel cs seed maximum l store) in numberOf c h ≡ own c h)
+made-asks-alone timebase channel cs seed maximum l store a n m e calls c =
+    asks-alone c (afterAll calls (made timebase channel cs seed maximum l store)) (made-stays-sound timebase channel cs seed maximum l store a n m e calls)

@@ -161,5 +161,5 @@ module _ (timebase channel : ℤ) (cs : List Cycle) (seed maximum : ℕ) (l : Li
       let t = sound.of-makers .track-new timebase channel a in
       record { track = t .lent cs; sixteen = n; layers = t .filled; budget = sound.of-makers .budget-new seed maximum m; list = e; events = refl }
 
-  pub never-refused : newOf timebase channel .code ≡ 0 → length cs ≡ places → newBudget seed maximum .code ≡ 0 → isList l 0 ≡ true → (calls : List Call) → Sound (afterAll calls made)
-  never-refused a n m e calls = sound-series calls made (made-sound a n m e)
+  pub made-stays-sound : newOf timebase channel .code ≡ 0 → length cs ≡ places → newBudget seed maximum .code ≡ 0 → isList l 0 ≡ true → (calls : List Call) → Sound (afterAll calls made)
+  made-stays-sound a n m e calls = sound-series calls made (made-sound a n m e)
