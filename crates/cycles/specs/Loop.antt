@@ -1,15 +1,18 @@
--- The Rust's two loops of `write_cc_on_cycle`, turn by turn: as they stand, with a count of 10,000 for each record beside
--- the total, and with that count left out (02, k). `k` turns are left; a walk that has at least as many as it may make
--- writes is never stopped by it.
+-- 02, k): the Rust's two loops of `write_cc_on_cycle`, turn by turn: as they stand, with a count of 10,000 for each record
+-- beside the total, and with that count left out; and the Rust's call, which collects by them and then pushes.
+-- A record's loop has `k` turns at most; what is proved of the call holds for every k from 10,000 on, so that no turn is missed.
+use mathlib.Core.Path.{_≡_}
 use mathlib.Core.Bool.{cond, _&&_}
 use mathlib.Core.List.{List, [], _∷_, _++_}
 use Prim.Native.Nat.{ℕ, zero, suc, _+_}
-use lib.Dec.{leb, ltb}
+use lib.Dec.{eqb, leb, ltb}
 use lib.IntN.{ℤ}
 use lib.Signed.{leZ}
+use lib.ListN.{length}
 use Rattle.numbers.specs.Limits.{cycleWrites}
 use Rattle.cycles.specs.declared.Cycle.{Cycle}
 use Rattle.cycles.specs.Due.{DueWrite, writeOf, advanced}
+use Rattle.cycles.specs.Calls.{State, Turn, limit, push}
 
 -- what one record's loop leaves: its writes, the record, and how many writes there are in all
 pub record Inner : Type 0 where
@@ -51,3 +54,22 @@ tableLoop loop most n [] = record { writes = []; table = [] }
 tableLoop loop most n (c ∷ cs) =
     let i = loop n c in
     joined i (cond (leb most (i .total)) (record { writes = []; table = cs }) (tableLoop loop most (i .total) cs))
+
+-- what both loops collect of a table, at most `most` writes: with the count, and without
+abbrev pub withCount : ℕ → ℕ → ℤ → List Cycle → Outer
+withCount k most u tab = tableLoop (λ (n : ℕ) (c : Cycle). countedLoop k most u 0 n c) most 0 tab
+
+abbrev pub withoutCount : ℕ → ℕ → ℤ → List Cycle → Outer
+withoutCount k most u tab = tableLoop (λ (n : ℕ) (c : Cycle). recordLoop k most u n c) most 0 tab
+
+-- a limit at which the count for each record stops nothing, whatever the table holds
+unfoldable pub Unstopped : ℕ → Type 0
+Unstopped most = (k : ℕ) (u : ℤ) (tab : List Cycle) → withCount k most u tab ≡ withoutCount k most u tab
+
+module _ {E : Type 0} (f : Turn E) where
+  abbrev pub pushed : State E → Outer → State E
+  pushed s o = push f (o .writes) (record { table = o .table; budget = s .budget; events = s .events })
+
+  -- the Rust's call: nothing for an empty table; else it collects, count and all, and then pushes up to the first write that does not fit
+  unfoldable pub rustCall : ℕ → ℤ → State E → State E
+  rustCall k u s = cond (eqb (length (s .table)) 0) s (pushed s (withCount k (limit (s .budget)) u (s .table)))

@@ -16,6 +16,7 @@ ghost use Rattle.eventlist.specs.Rows.{rowsOf, eventsOf};
 ghost use Rattle.cycles.specs.Due.{writeOf, advanced, dueCount, owed, key};
 ghost use Rattle.cycles.specs.Rules.{noCycle, okCycle};
 ghost use Rattle.cycles.specs.Calls.{limit};
+ghost use Rattle.cycles.specs.Loop.{Unstopped};
 ghost use Rattle.cycles.specs.Turns.{stepOf, made, ranState, ranOf, askFor, calledState, calledOf};
 use budget::Budget;
 use counted::Numbers;
@@ -233,9 +234,10 @@ pub fn run_record(c: Cycle, ask: Ask, most: u64, b: Budget, events: &mut [i64], 
     }
 }
 
-// How many writes a call may make: one more than fit, and at most 10,000.
+// How many writes a call may make: one more than fit, and at most 10,000. So no record is asked how many it has made: at this
+// limit a count of 10,000 for each of them, as the Rust keeps, would stop nothing.
 pub fn write_limit(b: Budget) -> u64
-    ensures { λ r. ⌜ r ≡ limit b ⌝ }
+    ensures { λ r. ⌜ Unstopped r × (r ≡ limit b) ⌝ }
 {
     let most = budget::safe_iteration_limit(b) as u64;
     lesser(most, CYCLE_WRITES)

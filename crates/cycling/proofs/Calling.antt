@@ -1,13 +1,10 @@
 -- One call of a series: where it is accepted, the cycle rules' `call` is what is left of the used records, the budget and the
 -- events (`seen-next`); where it is refused, all that was lent is left (`unmoved`).
-use mathlib.Core.Path.{_≡_, refl, sym, ap, ap₂, _∙_}
-use mathlib.Core.Bool.{cond}
+use mathlib.Core.Path.{_≡_, sym, ap, ap₂, _∙_}
 use mathlib.Core.List.{List, _++_, append-nil}
-use Prim.Native.Nat.{ℕ, zero, suc, _≤_}
+use Prim.Native.Nat.{ℕ, _≤_}
 use native.Mathlib.Omega.{arith}
 use native.Mathlib.Decide.{decLe}
-use borrow.Author.Tests.{ne-eqb}
-use lib.Dec.{eqb}
 use lib.IntN.{ℤ}
 use lib.ListN.{length, take, drop, length-take, drop-of-length-le}
 use lib.Seq.{take-at, take-all, take-append-seam}
@@ -25,9 +22,9 @@ use Rattle.cycles.proofs.Keeping.{length-leaves}
 use Rattle.cycles.proofs.Placing.{whole}
 use Rattle.state.specs.declared.Track.{Track}
 use Rattle.cycling.specs.declared.Cycled.{Cycled}
-use Rattle.cycling.specs.Calls.{usedOf, roundOf, leftBy, cycleRefusal, cycledOf}
+use Rattle.cycling.specs.Calls.{usedOf, roundOf, leftBy, cycleRefusal}
 use Rattle.cycling.specs.Series.{Lent, answerTo, leftTo, seen, turnOn}
-use Rattle.cycling.proofs.Refusing.{answer, list-left, refused}
+use Rattle.cycling.proofs.Refusing.{numbered, answer, list-left, refused}
 
 -- ---- the first n of a list changed, as many as there were
 
@@ -41,13 +38,8 @@ module _ (n : ℕ) (cs x : List Cycle) (e : length x ≡ length (take n cs)) whe
 
 -- ---- the number in the answer
 
-chosen : (n : ℕ) (x y : Cycled) → x .code ≡ 0 → y .code ≡ n → cond (eqb n 0) x y .code ≡ n
-chosen zero x y p q = p
-chosen (suc n) x y p q = rw (ne-eqb (suc n) 0 (λ (e : suc n ≡ 0). omega (arith, e))) q
-
 pub code-is : (a : Track) (u : ℤ) (s : Lent) → answerTo a u s .code ≡ cycleRefusal a places (s .cycles) u (s .budget) (s .list) (s .count)
-unfolding cycledOf
-code-is a u s = chosen (cycleRefusal a places (s .cycles) u (s .budget) (s .list) (s .count)) _ _ refl refl
+code-is a u s = numbered a places (s .cycles) u (s .budget) (s .list) (s .count)
 
 module _ (a : Track) (u : ℤ) (s : Lent) where
   pub unmoved : (answerTo a u s .code ≡ 0 → ⊥) → leftTo a u s ≡ s

@@ -49,6 +49,10 @@ module _ {E : Type 0} (f : Turn E) where
 
 -- ---- the table
 
+-- the used records of one that is lent in order are in order
+pub lent-rules : (a : Track) (cs : List Cycle) → okLent a cs ≡ true → okTable (usedOf a cs) ≡ true
+lent-rules a cs e = cycle-rules (a .notes) (a .waves) (a .sines) (cyclesOf a cs) (lent-lone a cs e) (lent-cycles a cs e)
+
 -- a table whose used records have the keys that they had, each well
 pub lent-kept : (a : Track) (cs cs′ : List Cycle) → okLent a cs ≡ true → keysOf (usedOf a cs′) ≡ keysOf (usedOf a cs) → all okCycle (usedOf a cs′) ≡ true → okLent a cs′ ≡ true
 unfolding okLent okCycles counted lone
@@ -77,7 +81,7 @@ module _ (a : Track) (u : ℤ) (s : Lent) (e : answerTo a u s .code ≡ 0) where
       }
 
   pub rules : okTable (usedOf a (s .cycles)) ≡ true
-  rules = cycle-rules (a .notes) (a .waves) (a .sines) (cyclesOf a (s .cycles)) (lent-lone a (s .cycles) (was-well .lent)) (lent-cycles a (s .cycles) (was-well .lent))
+  rules = lent-rules a (s .cycles) (was-well .lent)
 
   used-after : usedOf a (leftTo a u s .cycles) ≡ leaves (limit (s .budget)) u (usedOf a (s .cycles))
   used-after = C.used-next a u s e ∙ C.left-table a u s e

@@ -4,3 +4,4 @@ pub mod Keeping
 pub mod Demand
 pub mod Instance
 pub mod Sound
+pub mod Loop

@@ -2,7 +2,8 @@
 use mathlib.Core.Path.{_≡_, refl, ap, _∙_}
 use mathlib.Core.Bool.{Bool, true, false, cond, _&&_}
 use mathlib.Core.List.{List, _++_}
-use Prim.Native.Nat.{ℕ, _+_, _/_, _≤_}
+use Prim.Native.Nat.{ℕ, zero, suc, _+_, _/_, _≤_}
+use native.Mathlib.Omega.{arith}
 use borrow.Author.Tests.{ne-eqb, eqb-true, ltb-false}
 use lib.Dec.{eqb, ltb}
 use lib.IntN.{ℤ}
@@ -26,6 +27,7 @@ use Rattle.cycles.specs.Turns.{turn, optionOf, calledState}
 use Rattle.cycles.proofs.Push.{call-count}
 use Rattle.state.specs.declared.Track.{Track}
 use Rattle.state.specs.Tests.{okLent}
+use Rattle.cycling.specs.declared.Cycled.{Cycled}
 use Rattle.cycling.specs.Calls.{usedOf, leftBy, inOrder, gainsOf, cycleRefusal, quickRefusal, cycledOf, cycledList}
 
 -- ---- the first of its three tests
@@ -64,6 +66,15 @@ module _ (a : Track) (size : ℕ) (cs : List Cycle) (until : ℤ) (b : Budget) (
           ≡ inOrder (t && eqb size places) (isTime until && okLent a cs && okBudget b) (ltb (length l / recordWidth) (count + gainsOf a cs until b))
       go false e = refl
       go true e = rw (length-rowsOf l, left-length e)
+
+  -- in the answer
+  pub numbered : cycledOf a size cs until b l count .code ≡ cycleRefusal a size cs until b l count
+  unfolding cycledOf
+  numbered = go (cycleRefusal a size cs until b l count) _ _ refl refl
+    where
+      go : (n : ℕ) (x y : Cycled) → x .code ≡ 0 → y .code ≡ n → cond (eqb n 0) x y .code ≡ n
+      go zero x y p q = p
+      go (suc n) x y p q = rw (ne-eqb (suc n) 0 (λ e. omega (arith, e))) q
 
   -- refused, all is as it was
   pub refused : (cycleRefusal a size cs until b l count ≡ 0 → ⊥)

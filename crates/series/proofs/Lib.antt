@@ -4,3 +4,4 @@ pub mod ByValue
 pub mod Demand
 pub mod Large
 pub mod Linked
+pub mod Loop

@@ -41,7 +41,7 @@ loop-holds : tie.Need-loop-holds Inv-loop μ-loop
 loop-holds c =
     let s = c .before in
     let a = s .args in
-    (rw (c .write-limit .ensures) (P.begun (a .round) (a .used) (a .table) (a .b) (rowsOf (a .events .now)) (a .count) (s .pre .2)), refl)
+    (rw (c .write-limit .ensures .1) (P.begun (a .round) (a .used) (a .table) (a .b) (rowsOf (a .events .now)) (a .count) (s .pre .2)), refl)
 
 module _ (c : tie.In-loop Inv-loop μ-loop) where
   abbrev l : tie.At-loop Inv-loop μ-loop

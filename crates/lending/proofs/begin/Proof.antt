@@ -16,7 +16,7 @@ unfolding begunWith
 returns c =
     let d = c .before in
     let s = d .before .before in
-    rw (rw (toZ-ofZ (s .fits .until)) at (d .cycle-refusal .ensures), c .write-limit .ensures)
+    rw (rw (toZ-ofZ (s .fits .until)) at (d .cycle-refusal .ensures), c .write-limit .ensures .1)
 
 pub begin-spec : {M : Type 1} → statement M
 begin-spec = tie.close (tie.spec cycle-refusal-requires write-limit-requires returns)
