@@ -2,6 +2,7 @@
 // interface alone, as a product links it. docs/COMPARING.md says what is compared, and what was.
 //
 //     linked SEED COUNT FAMILIES [SEEDS]      so many scripts, their seeds rising; ends at the first difference
+//     linked SEED edges                       one script of cycle calls at their edge
 //     linked bench                            times of some calls on both sides
 
 #![allow(dead_code)]
@@ -15,6 +16,7 @@ mod calls;
 mod cut;
 mod desk;
 mod dice;
+mod edges;
 mod library;
 mod make;
 mod other;
@@ -223,8 +225,8 @@ fn nothing_changed(before: &Other, after: &Other) -> Result<(), Difference> {
 }
 
 /// Runs one script; answers whether the two sides agreed.
-fn compare(seed: u64, count: usize, families: &[i64], tally: &mut Tally) -> bool {
-    let (steps, mut pair) = (make::script(seed, count, families), Pair::new(seed));
+fn compare(seed: u64, steps: &[Step], tally: &mut Tally) -> bool {
+    let (mut pair, count) = (Pair::new(seed), steps.len());
     for (at, step) in steps.iter().enumerate() {
         if let Err(Difference { what, original, port }) = pair.step(step, tally) {
             println!("seed {seed}: call {at} of {count} differs in {what}");
@@ -261,19 +263,28 @@ fn print(tally: &Tally) {
 fn main() {
     let words: Vec<String> = std::env::args().skip(1).collect();
     let words: Vec<&str> = words.iter().map(String::as_str).collect();
-    let (seed, count, families, seeds) = match words[..] {
-        ["bench"] => return timing::print(),
-        [seed, count, families] => (seed, count, families, "1"),
-        [seed, count, families, seeds] => (seed, count, families, seeds),
+    let number = |word: &str| word.parse::<u64>().unwrap_or_else(|_| panic!("no number: {word}"));
+    let random = |count: &str, families: &str| {
+        let (count, families) = (number(count) as usize, make::families(families));
+        move |seed| make::script(seed, count, &families)
+    };
+    match words[..] {
+        ["bench"] => timing::print(),
+        [seed, "edges"] => compare_all(number(seed), 1, edges::script),
+        [seed, count, families] => compare_all(number(seed), 1, random(count, families)),
+        [seed, count, families, seeds] => compare_all(number(seed), number(seeds), random(count, families)),
         _ => {
-            eprintln!("linked SEED COUNT FAMILIES [SEEDS] | bench");
+            eprintln!("linked SEED COUNT FAMILIES [SEEDS] | SEED edges | bench");
             std::process::exit(2);
         }
-    };
-    let number = |word: &str| word.parse::<u64>().unwrap_or_else(|_| panic!("no number: {word}"));
-    let (first, families, mut tally) = (number(seed), make::families(families), Tally::default());
-    for seed in first..first + number(seeds) {
-        if !compare(seed, number(count) as usize, &families, &mut tally) {
+    }
+}
+
+/// Runs the scripts of so many seeds from the first on, and prints what was compared; ends at the first difference.
+fn compare_all(first: u64, seeds: u64, script: impl Fn(u64) -> Vec<Step>) {
+    let mut tally = Tally::default();
+    for seed in first..first + seeds {
+        if !compare(seed, &script(seed), &mut tally) {
             std::process::exit(1);
         }
     }

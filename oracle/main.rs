@@ -3,6 +3,7 @@
 //     oracle run < script           a line, or lines, after each call
 //     oracle make SEED COUNT FAMILIES > script
 //     oracle limits SEED FAMILIES > script        every call of the families at its limits
+//     oracle edges SEED > script    cycle calls at the edge of what one may write; `oracle edges SEED names` prints each case's first call and its name
 //     oracle text < script          one call a line; `oracle binary < text` goes back
 //     oracle cases                  document 01's cases that need only the original
 //     oracle sines SEED COUNT       document 01's sine values beside the original's
@@ -20,6 +21,7 @@ mod cases;
 mod cut;
 mod desk;
 mod dice;
+mod edges;
 mod limits;
 mod make;
 mod poke;
@@ -48,6 +50,12 @@ fn main() -> Result<()> {
             script::write(&steps, &mut out)?;
         }
         ["limits", seed, families] => script::write(&limits::script(number(seed), &make::families(families)), &mut out)?,
+        ["edges", seed] => script::write(&edges::script(number(seed)), &mut out)?,
+        ["edges", seed, "names"] => {
+            for (first, name) in edges::names(number(seed)) {
+                writeln!(out, "{first} {name}")?;
+            }
+        }
         ["text"] => {
             for step in script::read(&mut stdin())? {
                 writeln!(out, "{}", step.text())?;
@@ -94,7 +102,7 @@ fn main() -> Result<()> {
             }
         }
         _ => {
-            eprintln!("oracle run | make SEED COUNT FAMILIES | limits SEED FAMILIES | text | binary | cases | sines SEED COUNT | tape | tapes SEED COUNT | plays | each PROGRAM.. | pick N | thin N");
+            eprintln!("oracle run | make SEED COUNT FAMILIES | limits SEED FAMILIES | edges SEED [names] | text | binary | cases | sines SEED COUNT | tape | tapes SEED COUNT | plays | each PROGRAM.. | pick N | thin N");
             std::process::exit(2);
         }
     }

@@ -12,10 +12,10 @@ use crate::table::{Arg, Call, CALLS};
 const MANY_RECORDS: i64 = 4096;
 
 /// The most records that a list has.
-const MOST_RECORDS: i64 = 10_240;
+pub const MOST_RECORDS: i64 = 10_240;
 
 /// The most writes that one cycle call makes.
-const CYCLE_WRITES: i64 = 10_000;
+pub const CYCLE_WRITES: i64 = 10_000;
 
 pub struct Maker {
     pub dice: Dice,
