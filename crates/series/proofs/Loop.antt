@@ -11,6 +11,7 @@ use Rattle.cycling.specs.declared.Cycled.{Cycled}
 use Rattle.cycling.specs.Series.{Lent}
 use Rattle.cycling.proofs.Loop.{request-k}
 use Rattle.lending.specs.declared.Answer.{Answer}
+use Rattle.lending.specs.Passing.{ran}
 use Rattle.lending.specs.Writing.{answerOf}
 use Rattle.series.specs.Calls.{Call, Contract, Series, last, untils, Each, Accepted}
 use Rattle.series.specs.Loop.{rustAnswerTo, rustTo, rustAfter}
@@ -26,7 +27,7 @@ module _ (k : ℕ) (turns : cycleWrites ≤ k) (a : Track) where
       )
 
   pub lent-request-k-series : (cs : List Call) (s : Lent) → Series a cs s → Accepted cs → last cs s ≡ rustAfter k a (untils cs) s
-  unfolding Series Each last rustAfter
+  unfolding Series Each last ran
   lent-request-k-series [] s p ok = refl
   lent-request-k-series (c ∷ cs) s p ok =
       lent-request-k-series cs (c .hands) (p .1) (ok .1) ∙ ap (rustAfter k a (untils cs)) (lent-request-k s c (p .0) (ok .0) .1)

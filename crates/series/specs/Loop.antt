@@ -1,12 +1,13 @@
 -- 02, k): what the Rust's calls, each with its count of 10,000 for each record, leave of what is lent, one after the other: the next is handed
 -- what the one before left.
-use mathlib.Core.List.{List, [], _∷_}
+use mathlib.Core.List.{List}
 use Prim.Native.Nat.{ℕ}
 use lib.IntN.{ℤ}
 use Rattle.state.specs.declared.Track.{Track}
 use Rattle.cycling.specs.declared.Cycled.{Cycled}
 use Rattle.cycling.specs.Series.{Lent}
 use Rattle.cycling.specs.Loop.{rustAnswer, rustList}
+use Rattle.lending.specs.Passing.{ran}
 
 module _ (k : ℕ) (a : Track) where
   abbrev pub rustAnswerTo : ℤ → Lent → Cycled
@@ -21,6 +22,5 @@ module _ (k : ℕ) (a : Track) where
         count = rustAnswerTo u s .count;
       }
 
-  unfoldable pub rustAfter : List ℤ → Lent → Lent
-  rustAfter [] s = s
-  rustAfter (u ∷ us) s = rustAfter us (rustTo u s)
+  abbrev pub rustAfter : List ℤ → Lent → Lent
+  rustAfter us s = ran (λ (x : Lent) (u : ℤ). rustTo u x) s us
