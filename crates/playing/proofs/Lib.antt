@@ -1,4 +1,5 @@
 pub mod Answers
+pub mod Leaving
 pub mod Codes
 pub mod LayerCodes
 pub mod Refusals

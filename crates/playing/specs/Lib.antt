@@ -1,2 +1,3 @@
 pub mod Which
 pub mod Calls
+pub mod Settled

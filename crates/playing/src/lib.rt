@@ -2,10 +2,12 @@
 // is about to that part's own call, and then asks the whole track: `asked` puts that test in number 4's place. Refused, the
 // track is the one that was given.
 ghost use mathlib.Core.Path.{_≡_};
+ghost use mathlib.Core.Bool.{cond};
 ghost use Rattle.params.specs.Calls.{clearReserve, setOnTime, setOnCycle, setOnNote, setRandom, setRange, clearRange, setDelay, setMax, clearMax, setRepeat};
 ghost use Rattle.layers.specs.Calls.{setVSub, setVSubRandom, setVSubOnTime, setVSubOnCycle, setVSubOnNote, applyVSub};
-ghost use Rattle.playing.specs.Which.{velocity, gate, timing, octave, span, paramOf, withParam, withValue};
-ghost use Rattle.playing.specs.Calls.{asked, onParam, onLayers, timeTaken, afterNote, noteTaken, summedUp, valueOnTime, valueOnNote};
+ghost use Rattle.playing.specs.Which.{velocity, gate, timing, octave, span, paramOf, withParam};
+ghost use Rattle.playing.specs.Settled.{settled, listed};
+ghost use Rattle.playing.specs.Calls.{asked, onParam, onLayers, timeTaken, summedUp, valueOnTime, valueOnNote};
 use layers::LayersAnswer;
 use layers::Velocity;
 use params::NoteParam;
@@ -85,30 +87,6 @@ fn with_param(mut track: Track, which: u32, param: NoteParam) -> Track
     track
 }
 
-// The track with a note's value as its own: a gate's is no longer one in steps, and a length is not kept.
-fn with_value(mut track: Track, which: u32, value: i32) -> Track
-    ensures { λ r. ⌜ r ≡ withValue which track value ⌝ }
-{
-    if which == V {
-        track.velocity = value;
-        return track;
-    }
-    if which == Q {
-        track.qlen = value;
-        track.step = 0;
-        return track;
-    }
-    if which == T {
-        track.timing = value;
-        return track;
-    }
-    if which == O {
-        track.octave = value;
-        return track;
-    }
-    track
-}
-
 // What a part's call answers, with the test of the whole track in 4's place: 3 comes before it, 5 after it.
 fn asked(ok: bool, code: u32) -> u32
     ensures { λ r. ⌜ r ≡ asked ok code ⌝ }
@@ -184,38 +162,53 @@ fn time_taken(track: Track, which: u32, taken: ParamValue) -> TrackValue
     }
 }
 
-// The track after a note took the next value of a list: the value is the track's own, if the list is still there.
-fn after_note(track: Track, which: u32, taken: ParamValue) -> Track
-    ensures { λ r. ⌜ r ≡ afterNote which track taken ⌝ }
+// What a parameter's call leaves, with the test of the whole track in 4's place: refused, the parameter is the track's own.
+fn settled(ok: bool, taken: ParamValue, own: NoteParam) -> ParamValue
+    ensures { λ r. ⌜ r ≡ settled ok taken own ⌝ }
 {
-    let param = taken.param;
-    let left = with_param(track, which, param);
-    let reserve = param.reserve;
-    if reserve.kind != ON_NOTE {
-        return left;
-    }
-    with_value(left, which, taken.value)
-}
-
-fn note_taken(track: Track, which: u32, taken: ParamValue) -> TrackValue
-    ensures { λ r. ⌜ r ≡ noteTaken which track taken ⌝ }
-{
-    let a = track_ok(track);
-    let b = which <= L;
-    let code = asked(a & b, taken.code);
+    let code = asked(ok, taken.code);
     if code != 0 {
-        return TrackValue {
+        return ParamValue {
             code: code,
             value: 0,
-            track: track,
+            param: own,
         };
     }
-    let left = after_note(track, which, taken);
-    TrackValue {
+    let param = taken.param;
+    ParamValue {
         code: 0,
         value: taken.value,
-        track: left,
+        param: param,
     }
+}
+
+// Whether a note's value is the track's own: it was taken of a list that is still there.
+fn is_listed(left: ParamValue) -> bool
+    ensures { λ r. ⌜ r ≡ listed left ⌝ }
+{
+    let param = left.param;
+    let reserve = param.reserve;
+    (left.code == 0) & (reserve.kind == ON_NOTE)
+}
+
+// The track's own value after a note.
+fn value_left(left: ParamValue, own: i32) -> i32
+    ensures { λ r. ⌜ r ≡ cond (listed left) (left .value) own ⌝ }
+{
+    if is_listed(left) {
+        return left.value;
+    }
+    own
+}
+
+// Whether a gate is one in steps after a note: a list's is not.
+fn step_left(left: ParamValue, own: u32) -> u32
+    ensures { λ r. ⌜ r ≡ cond (listed left) 0 own ⌝ }
+{
+    if is_listed(left) {
+        return 0;
+    }
+    own
 }
 
 fn value_on_time(track: Track, which: u32, def: i32) -> TrackValue
@@ -224,14 +217,6 @@ fn value_on_time(track: Track, which: u32, def: i32) -> TrackValue
     let param = param_at(track, which);
     let taken = param.calc_on_time(track.timepos, def);
     time_taken(track, which, taken)
-}
-
-fn value_on_note(track: Track, which: u32, def: i32) -> TrackValue
-    ensures { λ r. ⌜ r ≡ valueOnNote which track def ⌝ }
-{
-    let param = param_at(track, which);
-    let taken = param.calc_on_note(def);
-    note_taken(track, which, taken)
 }
 
 // A note's velocity at the track's time, of the curve or cycle that is reserved, or the default; a curve that is over goes.
@@ -272,38 +257,88 @@ pub fn calc_l_on_time(track: Track, def: i32) -> TrackValue
 
 // A note's velocity, the next of the list that is reserved, or the default; a list that is spent goes. While the list is there,
 // the value is the track's velocity too. Refuses 4.
-pub fn calc_v_on_note(track: Track, def: i32) -> TrackValue
+pub fn calc_v_on_note(mut track: Track, def: i32) -> TrackValue
     ensures { λ r. ⌜ r ≡ valueOnNote velocity track def ⌝ }
 {
-    value_on_note(track, V, def)
+    let own = track.v;
+    let taken = own.calc_on_note(def);
+    let left = settled(track_ok(track), taken, own);
+    let param = left.param;
+    track.v = param;
+    track.velocity = value_left(left, track.velocity);
+    TrackValue {
+        code: left.code,
+        value: left.value,
+        track: track,
+    }
 }
 
 // The same of a note's timing. Refuses 4.
-pub fn calc_t_on_note(track: Track, def: i32) -> TrackValue
+pub fn calc_t_on_note(mut track: Track, def: i32) -> TrackValue
     ensures { λ r. ⌜ r ≡ valueOnNote timing track def ⌝ }
 {
-    value_on_note(track, T, def)
+    let own = track.t;
+    let taken = own.calc_on_note(def);
+    let left = settled(track_ok(track), taken, own);
+    let param = left.param;
+    track.t = param;
+    track.timing = value_left(left, track.timing);
+    TrackValue {
+        code: left.code,
+        value: left.value,
+        track: track,
+    }
 }
 
 // The same of a note's gate, which is no longer one in steps then. Refuses 4.
-pub fn calc_qlen_on_note(track: Track, def: i32) -> TrackValue
+pub fn calc_qlen_on_note(mut track: Track, def: i32) -> TrackValue
     ensures { λ r. ⌜ r ≡ valueOnNote gate track def ⌝ }
 {
-    value_on_note(track, Q, def)
+    let own = track.q;
+    let taken = own.calc_on_note(def);
+    let left = settled(track_ok(track), taken, own);
+    let param = left.param;
+    track.q = param;
+    track.qlen = value_left(left, track.qlen);
+    track.step = step_left(left, track.step);
+    TrackValue {
+        code: left.code,
+        value: left.value,
+        track: track,
+    }
 }
 
 // The same of a note's octave. Refuses 4.
-pub fn calc_o_on_note(track: Track, def: i32) -> TrackValue
+pub fn calc_o_on_note(mut track: Track, def: i32) -> TrackValue
     ensures { λ r. ⌜ r ≡ valueOnNote octave track def ⌝ }
 {
-    value_on_note(track, O, def)
+    let own = track.o;
+    let taken = own.calc_on_note(def);
+    let left = settled(track_ok(track), taken, own);
+    let param = left.param;
+    track.o = param;
+    track.octave = value_left(left, track.octave);
+    TrackValue {
+        code: left.code,
+        value: left.value,
+        track: track,
+    }
 }
 
 // The same of a note's length, which the track does not keep. Refuses 4.
-pub fn calc_l_on_note(track: Track, def: i32) -> TrackValue
+pub fn calc_l_on_note(mut track: Track, def: i32) -> TrackValue
     ensures { λ r. ⌜ r ≡ valueOnNote span track def ⌝ }
 {
-    value_on_note(track, L, def)
+    let own = track.l;
+    let taken = own.calc_on_note(def);
+    let left = settled(track_ok(track), taken, own);
+    let param = left.param;
+    track.l = param;
+    TrackValue {
+        code: left.code,
+        value: left.value,
+        track: track,
+    }
 }
 
 // A layer's value; nothing stays reserved for it. Refuses 4, 5.
