@@ -75,7 +75,8 @@ fn fresh_layer() -> Layer
     }
 }
 
-fn layer_ok(layer: Layer) -> bool
+// Whether every number of a layer is in its range.
+pub fn layer_ok(layer: Layer) -> bool
     ensures { λ r. ⌜ r ≡ okLayer layer ⌝ }
 {
     let a = is_number(layer.value);

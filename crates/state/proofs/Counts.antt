@@ -1,13 +1,7 @@
 -- A table that passes its test counts at most its places.
 use mathlib.Core.Path.{_≡_}
-use mathlib.Core.Bool.{Bool, true}
-use mathlib.Core.List.{List}
-use Prim.Native.Nat.{ℕ, _≤_}
-use borrow.Author.Tests.{leb-true}
-use lib.Dec.{leb}
-use lib.ListN.{take}
-use Rattle.laws.specs.Lists.{all, counted}
-use Rattle.laws.proofs.Ranges.{left}
+use mathlib.Core.Bool.{true}
+use Prim.Native.Nat.{_≤_}
 use Rattle.numbers.specs.Limits.{places}
 use Rattle.tables.specs.declared.NoteTable.{NoteTable}
 use Rattle.tables.specs.declared.WaveTable.{WaveTable}
@@ -16,10 +10,7 @@ use Rattle.tables.specs.declared.CycleTable.{CycleTable}
 use Rattle.cycles.specs.Rules.{okCycle}
 use Rattle.tables.specs.Reservations.{okValues, okWave, okSine}
 use Rattle.tables.specs.Tables.{okNotes, okWaves, okSines, okCycles}
-
-pub counted-few : {A : Type 0} (n m : ℕ) (p : A → Bool) (l : List A) → counted n m p l ≡ true → n ≤ m
-unfolding counted
-counted-few n m p l e = leb-true n m (left (leb n m) (all p (take n l)) e)
+use Rattle.tables.proofs.Testing.{counted-few}
 
 pub few-notes : (t : NoteTable) → okNotes t ≡ true → t .count ≤ places
 unfolding okNotes

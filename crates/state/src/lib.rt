@@ -2,14 +2,16 @@
 // the cycles, whose table the caller lends; the track only counts how many records of that table are used. A call that
 // refuses hands back the track that it was given.
 ghost use mathlib.Core.Path.{_≡_};
+ghost use Rattle.layers.specs.Layers.{okLayers};
 ghost use Rattle.state.specs.Track.{noNotes, noWaves, noSines, noCycles, newTrack, cyclesOf};
 ghost use Rattle.state.specs.Tests.{playable, okParams, okOptions, okTables, okTrack, okLent};
 ghost use Rattle.state.specs.Calls.{onChannel, newOf, setTimepos, setChannel, setCcFreq, setPbFreq};
 use cycles::Cycle;
 pub use cycles::OPTIONS;
 use cycles::PLACES;
+use layers::LAYER_LIMIT;
 use layers::Layers;
-use layers::layers_ok;
+use layers::layer_ok;
 use numbers::channel_ok;
 use numbers::is_length;
 use numbers::is_number;
@@ -26,9 +28,7 @@ use tables::lone_ok;
 use tables::no_note;
 use tables::no_sine;
 use tables::no_wave;
-use tables::notes_ok;
-use tables::sines_ok;
-use tables::waves_ok;
+use tables::stored_ok;
 use values::WriteOption;
 use values::option_ok;
 
@@ -146,6 +146,29 @@ fn params_ok(v: NoteParam, q: NoteParam, t: NoteParam, o: NoteParam, l: NotePara
     a & b & c & d & e
 }
 
+// Whether there are 1 to 16 layers, every number of which is in its range: the layers' own test, made here for `track_ok` alone, so
+// that the compiled code copies them once.
+fn own_layers_ok(layers: Layers) -> bool
+    ensures { λ r. ⌜ r ≡ okLayers layers ⌝ }
+{
+    let n = layers.count;
+    if n == 0 {
+        return false;
+    }
+    if LAYER_LIMIT < n {
+        return false;
+    }
+    let mut i: usize = 0;
+    while i < n {
+        let layer = layers.items[i];
+        if !layer_ok(layer) {
+            return false;
+        }
+        i += 1;
+    }
+    true
+}
+
 fn options_ok(options: [WriteOption; OPTIONS]) -> bool
     ensures { λ r. ⌜ r ≡ okOptions options ⌝ }
 {
@@ -160,18 +183,11 @@ fn options_ok(options: [WriteOption; OPTIONS]) -> bool
     true
 }
 
-// Whether the tables may be stored, and no target has two reservations in them.
+// Whether the tables may be stored, and no target has two reservations in them; cycles are not asked here.
 fn tables_ok(notes: NoteTable, waves: WaveTable, sines: SineTable) -> bool
     ensures { λ r. ⌜ r ≡ okTables notes waves sines ⌝ }
 {
-    let a = notes_ok(notes);
-    let b = waves_ok(waves);
-    let c = sines_ok(sines);
-    if !(a & b & c) {
-        return false;
-    }
-    let none = no_cycles();
-    lone_ok(notes, waves, sines, none)
+    stored_ok(notes, waves, sines)
 }
 
 // Whether every number of a track is in its range. A call that is lent the cycle table tests that besides, and that no
@@ -195,7 +211,7 @@ pub fn track_ok(track: Track) -> bool
         track.step,
     );
     let b = params_ok(track.v, track.q, track.t, track.o, track.l);
-    let c = layers_ok(layers);
+    let c = own_layers_ok(layers);
     let d = options_ok(options);
     let e = tables_ok(track.notes, track.waves, track.sines);
     let f = track.cycles <= PLACES;

@@ -1,4 +1,5 @@
 pub mod Closing
 pub mod Gathering
+pub mod Testing
 pub mod Keeping
 pub mod Sines

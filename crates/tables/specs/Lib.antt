@@ -1,2 +1,3 @@
 pub mod Reservations
 pub mod Tables
+pub mod Stored

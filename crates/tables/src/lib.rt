@@ -11,6 +11,7 @@ ghost use Rattle.counted.specs.Numbers.{shown};
 ghost use Rattle.counted.specs.Curves.{triples};
 ghost use Rattle.tables.specs.Reservations.{forward, okValues, okWave, okSine};
 ghost use Rattle.tables.specs.Tables.{noNote, noteAt, notesCleared, notesWithout, notesWith, okNotes, noWave, waveAt, wavesCleared, wavesWithout, wavesWith, okWaves, noSine, sineAt, sinesCleared, sinesWithout, sinesWith, okSines, newSine, cycleAt, cyclesCleared, cyclesWithout, cyclesWith, okCycles, noteKeys, waveKeys, sineKeys, cycleKeys, keysShown, keysWith, keyLimit, lone};
+ghost use Rattle.tables.specs.Stored.{testedOf, okStored};
 use counted::Numbers;
 use cycles::Cycle;
 use cycles::PLACES;
@@ -199,25 +200,6 @@ pub fn put_note(table: NoteTable, e: OnNoteValues) -> NoteTable
     }
 }
 
-// Whether a table has at most sixteen lists for notes, each of which may be stored.
-pub fn notes_ok(table: NoteTable) -> bool
-    ensures { λ r. ⌜ r ≡ okNotes table ⌝ }
-{
-    let n = table.count;
-    if PLACES < n {
-        return false;
-    }
-    let mut i: usize = 0;
-    while i < n {
-        let e = table.items[i];
-        if !note_ok(e) {
-            return false;
-        }
-        i += 1;
-    }
-    true
-}
-
 // What an unused place of a table of waves holds.
 pub fn no_wave() -> OnNoteWave
     ensures { λ r. ⌜ r ≡ noWave ⌝ }
@@ -300,25 +282,6 @@ pub fn put_wave(table: WaveTable, e: OnNoteWave) -> WaveTable
         count: n + 1,
         items: items,
     }
-}
-
-// Whether a table has at most sixteen waves for notes, each of which may be stored.
-pub fn waves_ok(table: WaveTable) -> bool
-    ensures { λ r. ⌜ r ≡ okWaves table ⌝ }
-{
-    let n = table.count;
-    if PLACES < n {
-        return false;
-    }
-    let mut i: usize = 0;
-    while i < n {
-        let e = table.items[i];
-        if !wave_ok(e) {
-            return false;
-        }
-        i += 1;
-    }
-    true
 }
 
 // What an unused place of a table of sines holds.
@@ -438,25 +401,6 @@ pub fn put_sine(table: SineTable, e: OnNoteSine) -> SineTable
         count: n + 1,
         items: items,
     }
-}
-
-// Whether a table has at most sixteen sines for notes, each of which may be stored.
-pub fn sines_ok(table: SineTable) -> bool
-    ensures { λ r. ⌜ r ≡ okSines table ⌝ }
-{
-    let n = table.count;
-    if PLACES < n {
-        return false;
-    }
-    let mut i: usize = 0;
-    while i < n {
-        let e = table.items[i];
-        if !sine_ok(e) {
-            return false;
-        }
-        i += 1;
-    }
-    true
 }
 
 // A table of cycles.
@@ -684,4 +628,146 @@ pub fn lone_ok(notes: NoteTable, waves: WaveTable, sines: SineTable, cycles: Cyc
     let c = sine_keys(sines, b);
     let d = cycle_keys(cycles, c);
     keys_alone(d)
+}
+
+// Whether a table has at most sixteen records, each of which may be stored, and the keys gathered so far: with the table's behind
+// them, where it has.
+pub struct Tested {
+    pub ok: bool,
+    pub keys: Keys,
+}
+
+// Tests a table of lists for notes, and gathers its keys on the way.
+fn test_notes(table: NoteTable, keys: Keys) -> Tested
+    requires { ⌜ keys .count + places ≤ keyLimit ⌝ }
+    ensures { λ r. ⌜ r ≡ testedOf (okNotes table) keys (noteKeys table) ⌝ }
+{
+    let n = table.count;
+    if PLACES < n {
+        return Tested {
+            ok: false,
+            keys: keys,
+        };
+    }
+    let first = keys.count;
+    let mut items = keys.items;
+    let mut i: usize = 0;
+    while i < n {
+        let e = table.items[i];
+        if !note_ok(e) {
+            return Tested {
+                ok: false,
+                keys: keys,
+            };
+        }
+        items[first + i] = key_of(e.target);
+        i += 1;
+    }
+    let all = Keys {
+        count: first + n,
+        items: items,
+    };
+    Tested {
+        ok: true,
+        keys: all,
+    }
+}
+
+// Tests a table of waves for notes, and gathers its keys on the way.
+fn test_waves(table: WaveTable, keys: Keys) -> Tested
+    requires { ⌜ keys .count + places ≤ keyLimit ⌝ }
+    ensures { λ r. ⌜ r ≡ testedOf (okWaves table) keys (waveKeys table) ⌝ }
+{
+    let n = table.count;
+    if PLACES < n {
+        return Tested {
+            ok: false,
+            keys: keys,
+        };
+    }
+    let first = keys.count;
+    let mut items = keys.items;
+    let mut i: usize = 0;
+    while i < n {
+        let e = table.items[i];
+        if !wave_ok(e) {
+            return Tested {
+                ok: false,
+                keys: keys,
+            };
+        }
+        items[first + i] = key_of(e.target);
+        i += 1;
+    }
+    let all = Keys {
+        count: first + n,
+        items: items,
+    };
+    Tested {
+        ok: true,
+        keys: all,
+    }
+}
+
+// Tests a table of sines for notes, and gathers its keys on the way.
+fn test_sines(table: SineTable, keys: Keys) -> Tested
+    requires { ⌜ keys .count + places ≤ keyLimit ⌝ }
+    ensures { λ r. ⌜ r ≡ testedOf (okSines table) keys (sineKeys table) ⌝ }
+{
+    let n = table.count;
+    if PLACES < n {
+        return Tested {
+            ok: false,
+            keys: keys,
+        };
+    }
+    let first = keys.count;
+    let mut items = keys.items;
+    let mut i: usize = 0;
+    while i < n {
+        let e = table.items[i];
+        if !sine_ok(e) {
+            return Tested {
+                ok: false,
+                keys: keys,
+            };
+        }
+        items[first + i] = key_of(e.target);
+        i += 1;
+    }
+    let all = Keys {
+        count: first + n,
+        items: items,
+    };
+    Tested {
+        ok: true,
+        keys: all,
+    }
+}
+
+// Whether the tables that a track holds may be stored, and no target has two reservations in them. Each table is tested where its
+// keys are gathered, so that the compiled code copies it once.
+pub fn stored_ok(notes: NoteTable, waves: WaveTable, sines: SineTable) -> bool
+    ensures { λ r. ⌜ r ≡ okStored notes waves sines ⌝ }
+{
+    let none = Keys {
+        count: 0,
+        items: [0; KEYS],
+    };
+    let a = test_notes(notes, none);
+    if !a.ok {
+        return false;
+    }
+    let one = a.keys;
+    let b = test_waves(waves, one);
+    if !b.ok {
+        return false;
+    }
+    let two = b.keys;
+    let c = test_sines(sines, two);
+    if !c.ok {
+        return false;
+    }
+    let all = c.keys;
+    keys_alone(all)
 }

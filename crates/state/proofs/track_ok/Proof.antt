@@ -14,8 +14,8 @@ play-ok-requires c κs = search needs
 params-ok-requires : tie.Need-params-ok-requires
 params-ok-requires c κs = search needs
 
-layers-ok-requires : tie.Need-layers-ok-requires
-layers-ok-requires c κs = search needs
+own-layers-ok-requires : tie.Need-own-layers-ok-requires
+own-layers-ok-requires c κs = search needs
 
 options-ok-requires : tie.Need-options-ok-requires
 options-ok-requires c κs = search needs
@@ -46,7 +46,7 @@ returns c =
       toZ-ofZ {w = w32} {z = a .octave} (record { sfits = g .1 .1 .1 .1 .1 .1 .1 .0 .1 }),
       toZ-ofZ {w = w32} {z = a .qlen} (record { sfits = g .1 .1 .1 .1 .1 .1 .1 .1 .0 .1 }),
     ) at (play .play-ok .ensures) in
-    both (both (both (both (both p (params .params-ok .ensures)) (layers .layers-ok .ensures)) (options .options-ok .ensures)) (tables .tables-ok .ensures)) refl
+    both (both (both (both (both p (params .params-ok .ensures)) (layers .own-layers-ok .ensures)) (options .options-ok .ensures)) (tables .tables-ok .ensures)) refl
 
 pub track-ok-spec : {M : Type 1} → statement M
 track-ok-spec =
@@ -54,7 +54,7 @@ track-ok-spec =
     (tie.spec
     play-ok-requires
     params-ok-requires
-    layers-ok-requires
+    own-layers-ok-requires
     options-ok-requires
     tables-ok-requires
     returns)
