@@ -9,9 +9,9 @@ ghost use Rattle.state.specs.Calls.{onChannel, newOf, setTimepos, setCha
 use cycles::Cycle;
 pub use cycles::OPTIONS;
 use cycles::PLACES;
-use layers::LAYER_LIMIT;
 use layers::Layers;
 use layers::layer_ok;
+use layers::layers_ok;
 use numbers::channel_ok;
 use numbers::is_length;
 use numbers::is_number;
@@ -146,27 +146,27 @@ fn params_ok(v: NoteParam, q: NoteParam, t: NoteParam, o: NoteParam, l: NotePara
     a & b & c & d & e
 }
 
-// Whether there are 1 to 16 layers, every number of which is in its range: the layers' own test, made here for `track_ok` alone, so
-// that the compiled code copies them once.
-fn own_layers_ok(layers: Layers) -> bool
+// The test of layers of which one counts.
+fn one_layer_ok(layers: Layers) -> bool
+    requires { ⌜ layers .count ≡ 1 ⌝ }
     ensures { λ r. ⌜ r ≡ okLayers layers ⌝ }
 {
-    let n = layers.count;
-    if n == 0 {
-        return false;
+    let layer = layers.items[0];
+    layer_ok(layer)
+}
+
+// Whether there are 1 to 16 layers, every number of which is in its range. Most tracks have one, which is read from its place: the
+// compiled code then copies no other.
+fn own_layers_ok(track: Track) -> bool
+    ensures { λ r. ⌜ r ≡ okLayers (track .layers) ⌝ }
+{
+    let n = track.layers.count;
+    if n == 1 {
+        let one = track.layers;
+        return one_layer_ok(one);
     }
-    if LAYER_LIMIT < n {
-        return false;
-    }
-    let mut i: usize = 0;
-    while i < n {
-        let layer = layers.items[i];
-        if !layer_ok(layer) {
-            return false;
-        }
-        i += 1;
-    }
-    true
+    let layers = track.layers;
+    layers_ok(layers)
 }
 
 fn options_ok(options: [WriteOption; OPTIONS]) -> bool
@@ -191,13 +191,12 @@ fn tables_ok(notes: NoteTable, waves: WaveTable, sines: SineTable) -> bool
 }
 
 // Whether every number of a track is in its range. A call that is lent the cycle table tests that besides, and that no
-// target of it is reserved here too. The layers are a local first: handed on from their place in the track, they would have
-// the compiled code copy the whole of it.
+// target of it is reserved here too. The options are a local first: handed on from
+// their place in the track, they would have the compiled code copy the whole of it.
 pub fn track_ok(track: Track) -> bool
     ensures { λ r. ⌜ r ≡ okTrack track ⌝ }
 {
     let options = track.options;
-    let layers = track.layers;
     let a = play_ok(
         track.timebase,
         track.timepos,
@@ -211,7 +210,7 @@ pub fn track_ok(track: Track) -> bool
         track.step,
     );
     let b = params_ok(track.v, track.q, track.t, track.o, track.l);
-    let c = own_layers_ok(layers);
+    let c = own_layers_ok(track);
     let d = options_ok(options);
     let e = tables_ok(track.notes, track.waves, track.sines);
     let f = track.cycles <= PLACES;

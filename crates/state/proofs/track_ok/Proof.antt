@@ -32,7 +32,7 @@ returns c =
     let params = layers .before in
     let play = params .before in
     let told = play .before .before .before .before .before .before .before .before .before in
-    let a = told .before .before .before .args .track in
+    let a = told .before .before .args .track in
     let g = told .struct-told .given in
     let p : play .play-ok .result ≡ okPlay a =
     rw (
