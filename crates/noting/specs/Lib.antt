@@ -1,3 +1,4 @@
 pub mod Lists
 pub mod Runs
 pub mod Calls
+pub mod Listed

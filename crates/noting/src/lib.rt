@@ -15,10 +15,12 @@ ghost use Rattle.events.specs.Events.{zeroEvent};
 ghost use Rattle.eventlist.specs.Rows.{rowsOf, eventsOf};
 ghost use Rattle.tables.specs.Reservations.{okValues};
 ghost use Rattle.tables.specs.Tables.{okNotes};
+ghost use Rattle.state.specs.Tests.{okTrack};
 ghost use Rattle.laws.specs.Lists.{without};
 ghost use Rattle.noting.specs.Lists.{silent, placeOf, valueOf, advanced, spent};
 ghost use Rattle.noting.specs.Runs.{wroteAt, stepOf, run, ranOf, playedOf, notesPut};
 ghost use Rattle.noting.specs.Calls.{noted, listLeft};
+ghost use Rattle.noting.specs.Listed.{listedOf};
 use budget::Budget;
 use budget::budget_ok;
 use cycles::PLACES;
@@ -69,6 +71,14 @@ pub struct Noted {
     pub count: usize,
     pub budget: Budget,
     pub track: Track,
+}
+
+// The same with the track's lists alone.
+pub struct Listed {
+    pub code: u32,
+    pub count: usize,
+    pub budget: Budget,
+    pub notes: NoteTable,
 }
 
 // Whether a list has no value for this note: it is empty, or at its end and does not go round.
@@ -263,6 +273,63 @@ fn append_all(events: &mut [i64], count: usize, made: usize, new: [Event; PLACES
     n
 }
 
+// The call without the track, whose test `ok` answers: what it says of everything else. The track is not handed back, so that the
+// compiled code does not copy it for each refusal.
+fn write_lists(
+    track: Track,
+    ok: bool,
+    start: i64,
+    budget: Budget,
+    events: &mut [i64],
+    count: usize,
+) -> Listed
+    requires { ⌜ ok ≡ okTrack track ⌝ }
+    ensures { λ r. ⌜ (r ≡ listedOf (noted track start budget (now (events .entry)) count))
+        × (now (events .exit) ≡ listLeft track start budget (now (events .entry)) count) ⌝ }
+{
+    let given = track.notes;
+    if !list_ok(events, count) {
+        return Listed {
+            code: 1,
+            count: count,
+            budget: budget,
+            notes: given,
+        };
+    }
+    if !(is_time(start) & ok & budget_ok(budget)) {
+        return Listed {
+            code: 4,
+            count: count,
+            budget: budget,
+            notes: given,
+        };
+    }
+    let options = track.options;
+    let at = Onset {
+        start: start,
+        channel: track.channel,
+    };
+    let r = play_notes(given, options, at, budget);
+    if events.len() / WIDTH - count < r.made {
+        return Listed {
+            code: 7,
+            count: count,
+            budget: budget,
+            notes: given,
+        };
+    }
+    let new = r.events;
+    let n = append_all(events, count, r.made, new);
+    let after = r.budget;
+    let notes = r.notes;
+    Listed {
+        code: 0,
+        count: n,
+        budget: after,
+        notes: notes,
+    }
+}
+
 // Writes what a track's lists have for a note that starts at `start`: the events stand behind the list's own, and each
 // list that wrote is one further. Answers the count, the budget and the track afterwards. A write that does not fit sets
 // the flag and ends the call; else lists that are used up and do not go round are taken out. Refuses 1, 4, 7; then all is
@@ -277,45 +344,15 @@ pub fn write_cc_on_note(
     ensures { λ r. ⌜ (r ≡ noted track start budget (now (events .entry)) count)
         × (now (events .exit) ≡ listLeft track start budget (now (events .entry)) count) ⌝ }
 {
-    if !list_ok(events, count) {
-        return Noted {
-            code: 1,
-            count: count,
-            budget: budget,
-            track: track,
-        };
-    }
-    if !(is_time(start) & track_ok(track) & budget_ok(budget)) {
-        return Noted {
-            code: 4,
-            count: count,
-            budget: budget,
-            track: track,
-        };
-    }
-    let options = track.options;
-    let at = Onset {
-        start: start,
-        channel: track.channel,
-    };
-    let r = play_notes(track.notes, options, at, budget);
-    if events.len() / WIDTH - count < r.made {
-        return Noted {
-            code: 7,
-            count: count,
-            budget: budget,
-            track: track,
-        };
-    }
-    let new = r.events;
-    let n = append_all(events, count, r.made, new);
-    let after = r.budget;
-    let notes = r.notes;
+    let ok = track_ok(track);
+    let w = write_lists(track, ok, start, budget, events, count);
+    let notes = w.notes;
     track.notes = notes;
+    let paid = w.budget;
     Noted {
-        code: 0,
-        count: n,
-        budget: after,
+        code: w.code,
+        count: w.count,
+        budget: paid,
         track: track,
     }
 }
