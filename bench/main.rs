@@ -222,13 +222,6 @@ fn speeds() {
             |list, n| unsafe { bench_remove_pitch_bend_in_range(list.as_mut_ptr(), list.len(), n, from as i64, to as i64, store, bytes) },
         );
         case(
-            "its window alone (take_out)",
-            &rising,
-            1,
-            |track| track.remove_pitch_bend_in_range(from, to),
-            |list, n| unsafe { bench_take_out(list.as_mut_ptr(), list.len(), n, 3, 0, from as i64, to as i64 + 1) },
-        );
-        case(
             "play_from, the middle",
             &rising,
             1,

@@ -188,7 +188,6 @@ pub const NO_CYCLE: Cycle = Cycle { target: 0, length: 0, next: 0, index: 0, val
 
 #[link(name = "benches", kind = "static")]
 extern "C" {
-    pub fn bench_take_out(events: *mut i64, numbers: usize, count: usize, kind: i64, number: i64, start: i64, end: i64) -> usize;
     pub fn bench_remove_pitch_bend_in_range(
         events: *mut i64,
         numbers: usize,

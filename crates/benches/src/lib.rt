@@ -5,10 +5,7 @@ pub mod tracks;
 use cutting::full_cut;
 use cutting::play_from;
 use eventlist::Taken;
-use eventlist::Window;
-use eventlist::list_ok;
 use eventlist::remove_pitch_bend_in_range;
-use eventlist::take_out;
 use notes::normalize;
 use numbers::is_number;
 use shapes::curve_value;
@@ -29,28 +26,6 @@ fn count_of(t: Taken) -> usize {
         return REFUSED;
     }
     t.count
-}
-
-// The window alone, as curves clear it, with no test of the records.
-#[no_mangle]
-pub extern "C" fn bench_take_out(
-    events: &mut [i64],
-    count: usize,
-    kind: i64,
-    number: i64,
-    start: i64,
-    end: i64,
-) -> usize {
-    if !list_ok(events, count) {
-        return REFUSED;
-    }
-    let w = Window {
-        kind: kind,
-        number: number,
-        start: start,
-        end: end,
-    };
-    take_out(events, count, w)
 }
 
 #[no_mangle]

@@ -31,7 +31,7 @@ use Rattle.state.proofs.Play.{play-channel}
 use Rattle.drawing.specs.Write.{writeOf}
 use Rattle.drawing.specs.Calls.{Draw, drawWrite, drawOffers, drawAdded, drawEvents, drawRefusal, drawAnswer, drawLeft, onTime, onSine}
 use Rattle.drawing.proofs.Drawn.{well, track-well, budget-well, events-well}
-use Rattle.drawing.proofs.Promises.{accepted-as, accepted-left, passed-all, has-room, events-left, curve-in-time, sine-in-time}
+use Rattle.drawing.proofs.Promises.{accepted-as, accepted-left, passed-all, passed-first, has-room, events-left, curve-in-time, sine-in-time}
 
 -- ---- what a call leaves
 module _ (d : Draw) (e : drawRefusal d ≡ 0) where
@@ -44,14 +44,14 @@ module _ (d : Draw) (e : drawRefusal d ≡ 0) where
   pub list-passes : isList (drawLeft d) (drawAnswer d .count) ≡ true
   list-passes =
       ap₂ isList (accepted-left d e) (ap (λ (r : Outcome). r .count) (accepted-as d e))
-      ∙ left-list (d .events) (d .count) (drawEvents d) (well d (passed-all d e) .list-well) fits
+      ∙ left-list (d .events) (d .count) (drawEvents d) (well d (passed-first d e) .list-well) fits
 
   pub budget-passes : okBudget (drawAnswer d .budget) ≡ true
-  budget-passes = ap (λ (r : Outcome). okBudget (r .budget)) (accepted-as d e) ∙ spent-ok (drawWrite d) (d .budget) (drawOffers d) (total (d .pieces)) (budget-well d (passed-all d e))
+  budget-passes = ap (λ (r : Outcome). okBudget (r .budget)) (accepted-as d e) ∙ spent-ok (drawWrite d) (d .budget) (drawOffers d) (total (d .pieces)) (budget-well d (passed-first d e))
 
   on-channel : isChannel (drawWrite d .channel) ≡ true
   unfolding writeOf
-  on-channel = play-channel (d .track) (track-play (d .track) (track-well d (passed-all d e)))
+  on-channel = play-channel (d .track) (track-play (d .track) (track-well d (passed-first d e)))
 
   events-pass : all timed (drawAdded d) ≡ true → okEvents (d .store) (drawLeft d) (drawAnswer d .count) ≡ true
   unfolding okEvents keptEvents

@@ -2,7 +2,7 @@
 -- 4 for "a resulting event time" never comes.
 --     code-is                  the answer's number is the refusal
 --     refused-as, refused-left refused: the answer and the list are what was given
---     accepted-as, accepted-left, passed-all, has-room   accepted: what the definitions come to
+--     accepted-as, accepted-left, passed-all, passed-first, has-room   accepted: what the definitions come to
 --     events-left              accepted: the list then has the events that the window kept, and behind them those that were added
 --     in-window, in-clamp      each that was added lies in the window and its value in the clamp
 --     others                   other targets' events stay, in order
@@ -53,7 +53,7 @@ use Rattle.drawing.specs.Write.{writeOf}
 use Rattle.drawing.specs.Calls.{inOrder, Draw, drawWrite, drawOffers, drawAdded, drawEvents, drawBudget, drawNumbers, drawLacks, drawRefusal, drawAnswer, drawLeft, Drawn, onTime, ccTarget, pbTarget, onSine}
 use Rattle.drawing.proofs.Asking.{some}
 use Rattle.drawing.proofs.Options.{option-well}
-use Rattle.drawing.proofs.Drawn.{asked-draw, well, seven, track-well, allowed-well, count-well, tried}
+use Rattle.drawing.proofs.Drawn.{asked-first, asked-draw, well, first-well, seven, track-well, allowed-well, count-well, tried}
 
 -- what is asked first was passed where all is
 first : (l t s n : Bool) (k : ℕ) → inOrder l t s n k ≡ 0 → inOrder l t s n 0 ≡ 0
@@ -97,13 +97,16 @@ module _ (d : Draw) where
   -- "a length of 0 or less", and no triple: nothing is taken out, nothing is added
   pub nothing : asked-draw d ≡ 0 → total (d .pieces) ≡ 0 → Drawn d (record { code = 0; count = d .count; budget = d .budget }) (d .events)
   nothing e z =
-      let n = none-written (drawWrite d) (d .budget) (rowsOf (d .events)) (d .count) (count-well d e) (d .pieces) z in
-      tried d e (record { code = 0; count = d .count; budget = d .budget }) (d .events) refl refl (sym (n .0), sym (n .1))
+      let n = none-written (drawWrite d) (d .budget) (rowsOf (d .events)) (d .count) (count-well d (first-well d e)) (d .pieces) z in
+      tried d (record { code = 0; count = d .count; budget = d .budget }) (d .events) refl e refl (sym (n .0), sym (n .1))
 
   module _ (e : drawRefusal d ≡ 0) where
     pub passed-all : asked-draw d ≡ 0
     unfolding drawRefusal
     passed-all = first (isList (d .events) (d .count)) (isTarget (d .target)) (d .short) (drawNumbers d) (cond (drawLacks d) 7 0) e
+
+    pub passed-first : asked-first d ≡ 0
+    passed-first = first-well d passed-all
 
     pub events-left : eventsOf (drawLeft d) (drawAnswer d .count) ≡ drawEvents d
     events-left = rw (accepted-as e, accepted-left e, rowsOf-flat) (take-append-seam (drawEvents d) _)
@@ -136,7 +139,7 @@ module _ (d : Draw) where
     in-time : total (d .pieces) ≤ 2 ^ 40 → all (λ (v : Event). isEventTime (v .time)) (drawAdded d) ≡ true
     unfolding writeOf
     in-time h =
-        let t = track-well d passed-all in
+        let t = track-well d passed-first in
         writes.in-time (drawWrite d) (d .budget) (d .pieces) (stepBudget (d .budget)) frequent (play-time (d .track) (track-play (d .track) t))
         (option-delay (optionOf (d .track) (d .target)) (option-well (d .track) (d .target) t)) h
 
@@ -145,13 +148,13 @@ module _ (a : Track) (b : Budget) (l : List ℤ) (count store : ℕ) where
   pub curve-in-time : (target : ℤ) (v : List ℤ) → (let d = onTime a target v b l count store in drawRefusal d ≡ 0 → all (λ (e : Event). isEventTime (e .time)) (drawAdded d) ≡ true)
   curve-in-time target v e =
       let d = onTime a target v b l count store in
-      let q = passed-all d e in
+      let q = passed-first d e in
       in-time d e (curve-far v (fine v (allowed-well d q) (omega (arith, leb-true (length v) listLimit (well d q .short-well)))))
 
   pub sine-in-time : (s : OnNoteSine) → (let d = onSine a s b l count store in drawRefusal d ≡ 0 → all (λ (e : Event). isEventTime (e .time)) (drawAdded d) ≡ true)
   sine-in-time s e =
       let d = onSine a s b l count store in
-      let q = allowed-well d (passed-all d e) in
+      let q = allowed-well d (passed-first d e) in
       in-time d e (sine-far _ (s .low) (s .high) (s .length) (s .times) (sine-length s q) (sine-times s q))
 
 -- ---- the old calls' targets: a number outside 0..127 is refused as no target is, a bend's argument never

@@ -2,13 +2,12 @@
 // curve or a sine into the lent list. Each tests what it is handed in the order of document 01's table and takes the track
 // apart once. A call that refuses hands back what it was given.
 ghost use mathlib.Core.Path.{_≡_};
-ghost use mathlib.Core.Bool.{_&&_};
 ghost use Prim.Native.Nat.{_≤_};
 ghost use lib.ListN.{length};
 ghost use Rattle.laws.specs.Integers.{cut};
 ghost use Rattle.numbers.specs.Limits.{places};
 ghost use Rattle.numbers.specs.Ranges.{isTarget};
-ghost use Rattle.eventlist.specs.Sound.{isList, okEvents};
+ghost use Rattle.eventlist.specs.Sound.{isList};
 ghost use Rattle.drawing.specs.Options.{optionOf, optionFor, left, setDelay, setRandom, setRange, clearRange, turned, notesTurned, setRepeat};
 ghost use Rattle.drawing.specs.Frequency.{bendFreq, freqFor};
 ghost use Rattle.drawing.specs.Write.{writeOf};
@@ -19,7 +18,6 @@ use counted::curve_ok;
 use counted::numbers_of;
 use cycles::key_of;
 use eventlist::list_ok;
-use eventlist::records_ok;
 use numbers::is_length;
 use numbers::is_number;
 use numbers::is_random;
@@ -240,10 +238,10 @@ pub fn write_of(track: Track, target: i32) -> Write
     }
 }
 
-// The number that refuses a write, or 0: the list, the target, whether the arguments are short enough, and the numbers, of
-// which `usable` speaks for all but the events'.
-fn asked(target: i32, short: bool, usable: bool, events: &[i64], count: usize, store: usize) -> u32
-    ensures { λ r. ⌜ r ≡ inOrder (isList (now (events .entry)) count) (isTarget target) short (usable && okEvents store (now (events .entry)) count) 0 ⌝ }
+// The number that refuses a write before its events are looked at, or 0: the list, the target, whether the arguments are
+// short enough, and the numbers, of which `usable` speaks for all but the events'.
+fn asked(target: i32, short: bool, usable: bool, events: &[i64], count: usize) -> u32
+    ensures { λ r. ⌜ r ≡ inOrder (isList (now (events .entry)) count) (isTarget target) short usable 0 ⌝ }
 {
     if !list_ok(events, count) {
         return 1;
@@ -254,7 +252,7 @@ fn asked(target: i32, short: bool, usable: bool, events: &[i64], count: usize, s
     if !short {
         return 3;
     }
-    if !(usable & records_ok(events, count, store)) {
+    if !usable {
         return 4;
     }
     0
@@ -277,7 +275,7 @@ pub fn write_on_time(
     let listed = numbers_of(list);
     let numbers = listed.list;
     let usable = track_ok(track) & budget_ok(budget) & curve_ok(numbers);
-    let code = asked(target, listed.code == 0, usable, events, count, store.len());
+    let code = asked(target, listed.code == 0, usable, events, count);
     if code != 0 {
         return Outcome {
             code: code,
@@ -286,7 +284,7 @@ pub fn write_on_time(
         };
     }
     let w = write_of(track, target);
-    writing::write_curve(w, budget, list, events, count)
+    writing::write_curve(w, budget, list, events, count, store.len())
 }
 
 // The target of a controller's number; a number that is none names no target.
@@ -366,7 +364,7 @@ pub fn write_sine(
         times: times,
     };
     let usable = track_ok(track) & budget_ok(budget) & sine_ok(sine);
-    let refusal = asked(target, true, usable, events, count, store.len());
+    let refusal = asked(target, true, usable, events, count);
     if refusal != 0 {
         return Outcome {
             code: refusal,
@@ -376,5 +374,16 @@ pub fn write_sine(
     }
     let w = write_of(track, target);
     let stype = SineType::from_i(shape as i64);
-    writing::write_sine(w, budget, stype, low, high, len, times, events, count)
+    writing::write_sine(
+        w,
+        budget,
+        stype,
+        low,
+        high,
+        len,
+        times,
+        events,
+        count,
+        store.len(),
+    )
 }

@@ -14,10 +14,15 @@ module _ (store : ℕ) (l : List ℤ) (count : ℕ) (start end : ℤ) where
   no-list e = rw e
 
   module _ (list : isList l count ≡ true) where
-    pub no-numbers : (isTime start && isTime end && okEvents store l count) ≡ false → bendsRefusal store l count start end ≡ 4
+    pub no-times : (isTime start && isTime end) ≡ false → bendsRefusal store l count start end ≡ 4
     unfolding bendsRefusal
-    no-numbers e = rw (list, e)
+    no-times e = rw (list, e)
 
-    pub well : (isTime start && isTime end && okEvents store l count) ≡ true → bendsRefusal store l count start end ≡ 0
-    unfolding bendsRefusal
-    well e = rw (list, e)
+    module _ (times : (isTime start && isTime end) ≡ true) where
+      pub no-events : okEvents store l count ≡ false → bendsRefusal store l count start end ≡ 4
+      unfolding bendsRefusal
+      no-events e = rw (list, times, e)
+
+      pub well : okEvents store l count ≡ true → bendsRefusal store l count start end ≡ 0
+      unfolding bendsRefusal
+      well e = rw (list, times, e)

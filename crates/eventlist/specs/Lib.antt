@@ -1,4 +1,5 @@
 pub mod Rows
 pub mod Sound
 pub mod Windows
+pub mod Clearing
 pub mod Bends

@@ -1,14 +1,19 @@
 // The event list: a slice of numbers that the caller lends, eight to a record, and the count of records that are
 // events. Each contract speaks of the slice read whole as records (`rowsOf`).
 ghost use mathlib.Core.Path.{_≡_};
+ghost use mathlib.Core.Bool.{cond};
 ghost use mathlib.Core.List.{[], _∷_, _++_};
 ghost use Prim.Native.Nat.{_+_, _≤_, _<_};
-ghost use lib.ListN.{length, getD, set, take};
+ghost use lib.ListN.{length, getD, set, take, drop};
+ghost use lib.Seq.{paste};
+ghost use lib.Signed.{ltZ};
 ghost use Rattle.laws.specs.Lists.{putFirst};
+ghost use Rattle.laws.specs.Moves.{inFront};
 ghost use Rattle.events.specs.Events.{zeroEvent};
 ghost use Rattle.eventlist.specs.Rows.{recordWidth, eventOf, numbersOf, rowsOf, eventsOf};
 ghost use Rattle.eventlist.specs.Sound.{isList, okEvents};
-ghost use Rattle.eventlist.specs.Windows.{takenBy, keptBy, rowsKept};
+ghost use Rattle.eventlist.specs.Windows.{takenBy, windowWidth, windowIn, noWindow, windowsOf, takenByAny};
+ghost use Rattle.eventlist.specs.Clearing.{widened, Covers, surveyOf, Surveyed, clearedBy, rowsCleared};
 ghost use Rattle.eventlist.specs.Bends.{bendsTaken, bendsLeft};
 use events::CONTROL_CHANGE;
 use events::Event;
@@ -124,38 +129,212 @@ pub struct Window {
 pub fn in_window(e: Event, w: Window) -> bool
     ensures { λ r. ⌜ r ≡ takenBy w e ⌝ }
 {
-    (e.kind == w.kind)
-        & ((w.kind != CONTROL_CHANGE) | (e.v1 == w.number))
-        & (w.start <= e.time)
+    (w.start <= e.time)
         & (e.time < w.end)
+        & (e.kind == w.kind)
+        & ((w.kind != CONTROL_CHANGE) | (e.v1 == w.number))
 }
 
-// How many of the `count` events the window leaves.
-pub fn count_kept(events: &[i64], count: usize, w: Window) -> usize
-    requires { ⌜ count ≤ length (rowsOf (now events)) ⌝ }
-    ensures { λ r. ⌜ r ≡ length (keptBy w (now (events .entry)) count) ⌝ }
+// The numbers of a window in a list of windows: kind, number, start, end.
+pub const WINDOW: usize = 4;
+
+// One window as a list of windows.
+pub fn lone_window(w: Window) -> [i64; WINDOW]
+    ensures { λ r. ⌜ windowsOf r ≡ w ∷ [] ⌝ }
 {
-    let mut i: usize = 0;
-    let mut n: usize = 0;
-    while i < count {
-        if in_window(read_event(events, i), w) {
-            i += 1;
-        } else {
-            n += 1;
-            i += 1;
+    [w.kind, w.number, w.start, w.end]
+}
+
+// The window that four numbers say.
+fn window_in(s: &[i64]) -> Window
+    requires { ⌜ length (now s) ≡ windowWidth ⌝ }
+    ensures { λ r. ⌜ r ≡ windowIn (now (s .entry)) ⌝ }
+{
+    Window {
+        kind: s[0],
+        number: s[1],
+        start: s[2],
+        end: s[3],
+    }
+}
+
+// The four numbers of a window.
+fn set_window(s: &mut [i64], w: Window)
+    requires { ⌜ length (now s) ≡ windowWidth ⌝ }
+    ensures { λ r. ⌜ now (s .exit) ≡ w .kind ∷ w .number ∷ w .start ∷ w .end ∷ [] ⌝ }
+{
+    let kind = w.kind;
+    let number = w.number;
+    let start = w.start;
+    let end = w.end;
+    s[0] = kind;
+    s[1] = number;
+    s[2] = start;
+    s[3] = end;
+}
+
+// Makes `w` window `j`, which is there.
+pub fn put_window(windows: &mut [i64], j: usize, w: Window)
+    requires { ⌜ j < length (windowsOf (now windows)) ⌝ }
+    ensures { λ r. ⌜ windowsOf (now (windows .exit)) ≡ set (windowsOf (now (windows .entry))) j w ⌝ }
+{
+    let a = j * WINDOW;
+    let b = a + WINDOW;
+    set_window(&mut windows[a..b], w);
+}
+
+// Window `j`, which is there.
+fn window_at(windows: &[i64], j: usize) -> Window
+    requires { ⌜ j < length (windowsOf (now windows)) ⌝ }
+    ensures { λ r. ⌜ r ≡ getD (windowsOf (now (windows .entry))) j noWindow ⌝ }
+{
+    let a = j * WINDOW;
+    let b = a + WINDOW;
+    window_in(&windows[a..b])
+}
+
+// Whether some window takes the event out.
+fn any_takes(windows: &[i64], e: Event) -> bool
+    ensures { λ r. ⌜ r ≡ takenByAny (windowsOf (now (windows .entry))) e ⌝ }
+{
+    let m = windows.len() / WINDOW;
+    let mut j: usize = 0;
+    while j < m {
+        if in_window(e, window_at(windows, j)) {
+            return true;
         }
+        j += 1;
     }
-    n
+    false
 }
 
-// Makes `e`, which is record `from`, record `to`; where they are the same nothing is written.
-fn settle(events: &mut [i64], from: usize, to: usize, e: Event)
-    requires { ⌜ (from < length (rowsOf (now events))) × ((to ≤ from) × (e ≡ getD (rowsOf (now events)) from zeroEvent)) ⌝ }
-    ensures { λ r. ⌜ rowsOf (now (events .exit)) ≡ set (rowsOf (now (events .entry))) to e ⌝ }
+// Times from `start` on and before `end`.
+struct Span {
+    start: i64,
+    end: i64,
+}
+
+// Later than every time and end of a window.
+const FAR: i64 = 4611686018427387904;
+
+fn earlier_of(a: i64, b: i64) -> i64
+    ensures { λ r. ⌜ r ≡ cond (ltZ a b) a b ⌝ }
 {
-    if to < from {
-        write_event(events, to, e);
+    if a < b {
+        return a;
     }
+    b
+}
+
+fn later_of(a: i64, b: i64) -> i64
+    ensures { λ r. ⌜ r ≡ cond (ltZ a b) b a ⌝ }
+{
+    if a < b {
+        return b;
+    }
+    a
+}
+
+// The span with a window's times in it too.
+fn widen(s: Span, w: Window) -> Span
+    ensures { λ r. ⌜ r ≡ widened s w ⌝ }
+{
+    let start = earlier_of(w.start, s.start);
+    let end = later_of(s.end, w.end);
+    Span {
+        start: start,
+        end: end,
+    }
+}
+
+// A span that has the times of all windows in it.
+fn span_of(windows: &[i64]) -> Span
+    ensures { λ r. ⌜ Covers r (windowsOf (now (windows .entry))) ⌝ }
+{
+    let m = windows.len() / WINDOW;
+    let mut span = Span {
+        start: FAR,
+        end: -FAR,
+    };
+    let mut j: usize = 0;
+    while j < m {
+        span = widen(span, window_at(windows, j));
+        j += 1;
+    }
+    span
+}
+
+// Whether some window takes the event out; windows are looked at only where the time lies in their span.
+fn takes(windows: &[i64], span: Span, e: Event) -> bool
+    requires { ⌜ Covers span (windowsOf (now windows)) ⌝ }
+    ensures { λ r. ⌜ r ≡ takenByAny (windowsOf (now (windows .entry))) e ⌝ }
+{
+    if (e.time < span.start) | (span.end <= e.time) {
+        return false;
+    }
+    any_takes(windows, e)
+}
+
+// What a pass over the events says before windows are taken out: whether each event may be stored, how many stand in front
+// of the first that is taken, and how many are taken.
+pub struct Seen {
+    pub ok: bool,
+    pub first: usize,
+    pub taken: usize,
+}
+
+fn one_if(yes: bool) -> usize
+    ensures { λ r. ⌜ r ≡ cond yes 1 0 ⌝ }
+{
+    if yes {
+        return 1;
+    }
+    0
+}
+
+// Goes once over the `count` events, beside a store of `store` bytes. Where one may not be stored it says no more. What is
+// taken is counted without a branch, which no processor could foresee.
+pub fn survey(events: &[i64], count: usize, store: usize, windows: &[i64]) -> Seen
+    requires { ⌜ count ≤ length (rowsOf (now events)) ⌝ }
+    ensures { λ r. ⌜ r ≡ surveyOf store (windowsOf (now (windows .entry))) (now (events .entry)) count ⌝ }
+{
+    let span = span_of(windows);
+    let mut first: usize = 0;
+    let mut taken: usize = 0;
+    let mut i: usize = 0;
+    while i < count {
+        let e = read_event(events, i);
+        if !event_ok(e, store) {
+            return Seen {
+                ok: false,
+                first: 0,
+                taken: 0,
+            };
+        }
+        let hit = takes(windows, span, e);
+        taken += one_if(hit);
+        first += one_if((first == i) & !hit);
+        i += 1;
+    }
+    Seen {
+        ok: true,
+        first: first,
+        taken: taken,
+    }
+}
+
+// Moves `n` records from `from` on down to `to`, in order, and answers how many were moved.
+fn move_down(events: &mut [i64], from: usize, to: usize, n: usize) -> usize
+    requires { ⌜ (to < from) × (from + n ≤ length (rowsOf (now events))) ⌝ }
+    ensures { λ r. ⌜ (r ≡ n) × (rowsOf (now (events .exit)) ≡ paste (rowsOf (now (events .entry))) to (drop from (rowsOf (now (events .entry)))) n) ⌝ }
+{
+    let mut moved: usize = 0;
+    while moved < n {
+        let e = read_event(events, from + moved);
+        write_event(events, to + moved, e);
+        moved += 1;
+    }
+    moved
 }
 
 // Zeroes the records from `from` on that are below `to`: of the first `to` the first `from` are left.
@@ -170,26 +349,60 @@ pub fn clear_from(events: &mut [i64], from: usize, to: usize)
     }
 }
 
-// Takes the window's events out of the `count` and answers how many are left. Those keep their order, each moved at
-// most once, in one pass; the places that fall vacant are zeroed.
-pub fn take_out(events: &mut [i64], count: usize, w: Window) -> usize
-    requires { ⌜ count ≤ length (rowsOf (now events)) ⌝ }
-    ensures { λ r. ⌜ (r ≡ length (keptBy w (now (events .entry)) count)) × (rowsOf (now (events .exit)) ≡ rowsKept w (now (events .entry)) count) ⌝ }
+// The place of the next event, from `i` on, that some window takes; the count where there is none.
+fn next_taken(events: &[i64], i: usize, count: usize, windows: &[i64], span: Span) -> usize
+    requires { ⌜ (i ≤ count) × (count ≤ length (rowsOf (now events))) × Covers span (windowsOf (now windows)) ⌝ }
+    ensures { λ r. ⌜ r ≡ i + inFront (takenByAny (windowsOf (now (windows .entry)))) (drop i (eventsOf (now (events .entry)) count)) ⌝ }
 {
-    let mut i: usize = 0;
-    let mut n: usize = 0;
-    while i < count {
-        let e = read_event(events, i);
-        if in_window(e, w) {
-            i += 1;
-        } else {
-            settle(events, i, n, e);
-            n += 1;
-            i += 1;
+    let mut j = i;
+    while j < count {
+        if takes(windows, span, read_event(events, j)) {
+            return j;
         }
+        j += 1;
     }
+    j
+}
+
+// What taking events out leaves: how many are left, and how many of these were moved, that is, written to another place.
+pub struct Cleared {
+    pub left: usize,
+    pub moved: usize,
+}
+
+// Takes the windows' events out of the `count`, as `seen` by the survey. What is left keeps its order: before the first that is taken
+// nothing moves, and behind it each stretch between two that are taken moves once, the last one without being asked again. The places
+// that fall vacant are zeroed.
+pub fn clear_windows(events: &mut [i64], count: usize, windows: &[i64], seen: Seen) -> Cleared
+    requires { ⌜ (count ≤ length (rowsOf (now events))) × Surveyed (windowsOf (now windows)) (now events) count seen ⌝ }
+    ensures { λ r. ⌜ (r ≡ clearedBy (windowsOf (now (windows .entry))) (now (events .entry)) count)
+        × (rowsOf (now (events .exit)) ≡ rowsCleared (windowsOf (now (windows .entry))) (now (events .entry)) count) ⌝ }
+{
+    let first = seen.first;
+    let taken = seen.taken;
+    if first == count {
+        return Cleared {
+            left: count,
+            moved: 0,
+        };
+    }
+    let span = span_of(windows);
+    let mut i = first + 1;
+    let mut n = first;
+    let mut moved: usize = 0;
+    while i - n < taken {
+        let next = next_taken(events, i, count, windows, span);
+        moved += move_down(events, i, n, next - i);
+        n += next - i;
+        i = next + 1;
+    }
+    moved += move_down(events, i, n, count - i);
+    n += count - i;
     clear_from(events, n, count);
-    n
+    Cleared {
+        left: n,
+        moved: moved,
+    }
 }
 
 // What a call that takes events out answers: its number, and the count of the list afterwards.
@@ -217,7 +430,7 @@ pub fn remove_pitch_bend_in_range(
             count: count,
         };
     }
-    if !(is_time(start) & is_time(end) & records_ok(events, count, store.len())) {
+    if !(is_time(start) & is_time(end)) {
         return Taken {
             code: 4,
             count: count,
@@ -230,6 +443,17 @@ pub fn remove_pitch_bend_in_range(
         start: start,
         end: past,
     };
-    let n = take_out(events, count, w);
-    Taken { code: 0, count: n }
+    let windows = lone_window(w);
+    let seen = survey(events, count, store.len(), &windows);
+    if !seen.ok {
+        return Taken {
+            code: 4,
+            count: count,
+        };
+    }
+    let done = clear_windows(events, count, &windows, seen);
+    Taken {
+        code: 0,
+        count: done.left,
+    }
 }

@@ -1,13 +1,18 @@
 -- A stretch inside a store, tested so that no sum can wrap: each test as `is_stretch` makes it, and what it says of `isStretch`.
-use mathlib.Core.Path.{_≡_, refl, sym}
-use mathlib.Core.Bool.{Bool, true, false, true≢false}
+use mathlib.Core.Path.{_≡_, refl, sym, ap₂, _∙_}
+use mathlib.Core.Bool.{Bool, true, false, true≢false, cond, _&&_}
 use Prim.Native.Nat.{ℕ, _+_, _-_, _≤_, _<_}
 use native.Mathlib.Omega.{arith}
 use borrow.Author.Tests.{ltb-true, leb-true, leb-false, le-leb, lt-leb}
 use lib.Dec.{leb, leb·zero}
 use lib.IntN.{ℤ, pos, negsuc, natAbs}
 use lib.Signed.{ltZ}
-use Rattle.events.specs.Events.{isStretch}
+use Rattle.laws.specs.Integers.{eqZ}
+use Rattle.laws.proofs.Bits.{eqZ-true}
+use Rattle.laws.proofs.Ranges.{left, right}
+use Rattle.events.specs.declared.Event.{Event}
+use Rattle.events.specs.Kinds.{hasData}
+use Rattle.events.specs.Events.{isStretch, okData}
 
 pub no-start : (store : ℕ) (o n : ℤ) → ltZ o (pos 0) ≡ true → false ≡ isStretch store o n
 unfolding isStretch
@@ -36,3 +41,21 @@ unfolding isStretch
 decided store (negsuc a) n e h l = absurd (true≢false e)
 decided store (pos a) (negsuc b) e h l = absurd (true≢false h)
 decided store (pos a) (pos b) e h l = rw (leb·zero a, leb·zero b) (sums (leb a (store - b)) a b store l refl)
+
+-- no bytes at the start lie in any store
+pub no-bytes : (store : ℕ) → isStretch store (pos 0) (pos 0) ≡ true
+unfolding isStretch
+no-bytes store = leb·zero store
+
+-- so whatever the kind, an event without data may have its offset and length
+pub without-data : (store : ℕ) (e : Event) → (eqZ (e .offset) (pos 0) && eqZ (e .len) (pos 0)) ≡ true → okData store e ≡ true
+unfolding okData
+without-data store e h =
+    let o = eqZ-true (e .offset) (pos 0) (left (eqZ (e .offset) (pos 0)) (eqZ (e .len) (pos 0)) h) in
+    let n = eqZ-true (e .len) (pos 0) (right (eqZ (e .offset) (pos 0)) (eqZ (e .len) (pos 0)) h) in
+    go (hasData (e .kind)) (ap₂ (isStretch store) o n ∙ no-bytes store) h
+  where
+    go : (t : Bool) → isStretch store (e .offset) (e .len) ≡ true → (eqZ (e .offset) (pos 0) && eqZ (e .len) (pos 0)) ≡ true
+        → cond t (isStretch store (e .offset) (e .len)) (eqZ (e .offset) (pos 0) && eqZ (e .len) (pos 0)) ≡ true
+    go true a b = a
+    go false a b = b

@@ -32,6 +32,12 @@ okEvent store e =
     isKind (e .kind) && isEventTime (e .time) && isChannel (e .channel) && isWord (e .v1) && isWord (e .v2) && isWord (e .v3)
     && okNumbered e && okData store e
 
+-- all of that but the data
+abbrev pub okPlain : Event → Bool
+okPlain e =
+    isKind (e .kind) && isEventTime (e .time) && isChannel (e .channel) && isWord (e .v1) && isWord (e .v2) && isWord (e .v3)
+    && okNumbered e
+
 -- ---- the events
 abbrev pub zeroEvent : Event
 zeroEvent = record { kind = pos 0; time = pos 0; channel = pos 0; v1 = pos 0; v2 = pos 0; v3 = pos 0; offset = pos 0; len = pos 0 }

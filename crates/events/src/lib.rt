@@ -6,7 +6,7 @@ ghost use mathlib.Core.Path.{_≡_};
 ghost use lib.ListN.{length};
 ghost use Rattle.laws.specs.Integers.{cut};
 ghost use Rattle.events.specs.Kinds.{isKind, hasData, bytesOf};
-ghost use Rattle.events.specs.Events.{zeroEvent, noteEvent, voiceEvent, ccEvent, pitchBendEvent, pitchBendRangeEvent, metaEvent, directSmfEvent, sysexEvent, okNumbered, isStretch, okData, okEvent, refused, made, madeCc, sizeOf};
+ghost use Rattle.events.specs.Events.{zeroEvent, noteEvent, voiceEvent, ccEvent, pitchBendEvent, pitchBendRangeEvent, metaEvent, directSmfEvent, sysexEvent, okNumbered, isStretch, okData, okPlain, okEvent, refused, made, madeCc, sizeOf};
 use numbers::is_channel;
 use numbers::is_controller;
 use numbers::is_event_time;
@@ -238,18 +238,23 @@ fn is_stretch(offset: i64, len: i64, store: usize) -> bool
     offset as usize <= store - size
 }
 
+// Whether an event has the data that its kind allows: no bytes at the store's start are asked no further, as most events have
+// none.
 fn data_ok(e: Event, store: usize) -> bool
     ensures { λ r. ⌜ r ≡ okData store e ⌝ }
 {
+    if (e.offset == 0) & (e.len == 0) {
+        return true;
+    }
     if has_data(e.kind) {
         return is_stretch(e.offset, e.len, store);
     }
-    (e.offset == 0) & (e.len == 0)
+    false
 }
 
-// Whether an event may be stored beside a store of `store` bytes.
-pub fn event_ok(e: Event, store: usize) -> bool
-    ensures { λ r. ⌜ r ≡ okEvent store e ⌝ }
+// Whether an event's numbers, but for its data, may be stored.
+fn plain_ok(e: Event) -> bool
+    ensures { λ r. ⌜ r ≡ okPlain e ⌝ }
 {
     is_kind(e.kind)
         & is_event_time(e.time)
@@ -258,7 +263,16 @@ pub fn event_ok(e: Event, store: usize) -> bool
         & is_word(e.v2)
         & is_word(e.v3)
         & numbered_ok(e)
-        & data_ok(e, store)
+}
+
+// Whether an event may be stored beside a store of `store` bytes.
+pub fn event_ok(e: Event, store: usize) -> bool
+    ensures { λ r. ⌜ r ≡ okEvent store e ⌝ }
+{
+    if !plain_ok(e) {
+        return false;
+    }
+    data_ok(e, store)
 }
 
 // A length of data as a count of bytes.

@@ -1,9 +1,12 @@
 -- A list of records compacted in place, over any record: what is kept of the first i stands in front, and behind it is what
 -- stood there (`compact`); then the places that fell vacant are cleared (`cleared`), and what comes is `putFirst`.
 --     kept-.., counted-.., compact-..   one record more, kept or left out
+--     kept-rest, compact-rest           a stretch more, all of it kept
+--     without-twice                     two tests, one after the other, are one
 --     cleared-..                        one place more cleared
 --     put-more, put-again, put-one      a counted list with more at its end
-use mathlib.Core.Bool.{Bool, true, false}
+--     down-none, down-read, down-more   a stretch moved down, a record at a time
+use mathlib.Core.Bool.{Bool, true, false, _||_}
 use mathlib.Core.Path.{_≡_, refl, sym, ap, _∙_, subst}
 use mathlib.Core.List.{List, [], _∷_, _++_, append-assoc, append-nil}
 use mathlib.Core.Logic.{⊎-elim}
@@ -11,9 +14,9 @@ use Prim.Native.Nat.{ℕ, zero, suc, _+_, _-_, _≤_, _<_, max}
 use native.Mathlib.Nat.{add-zero, suc-sub-suc, sub-zero, zero-sub}
 use native.Mathlib.Numerals.{add-one}
 use native.Mathlib.Omega.{arith}
-use lib.ListN.{length, getD, set, take, drop, replicate, length-append, length-replicate, take-append-drop, replicate-append-replicate}
-use lib.Seq.{drop-cons, take-suc, set-at, set-getD, getD-drop, length-take-le, set-split, drop-append-add, drop-drop, take-append-seam}
-use Rattle.laws.specs.Lists.{without, putFirst}
+use lib.ListN.{length, getD, set, take, drop, replicate, length-append, length-take, length-drop, length-replicate, take-append-drop, replicate-append-replicate}
+use lib.Seq.{drop-cons, take-suc, set-at, set-getD, getD-drop, length-take-le, set-split, drop-append-add, drop-drop, take-append-seam, take-add, take-nil, paste, paste-zero, paste-suc, drop-paste}
+use Rattle.laws.specs.Lists.{without, unless, putFirst}
 use Rattle.laws.proofs.Bools.{which}
 
 module _ {R : Type 0} where
@@ -29,8 +32,33 @@ module _ {R : Type 0} where
       let rest = length-without out a in
       ⊎-elim (λ h. rw h (omega arith)) (λ h. rw h (omega arith)) (which (out r))
 
+  -- where none is left out all are kept
+  pub without-none : (out : R → Bool) (a : List R) → length (without out a) ≡ length a → without out a ≡ a
+  without-none out [] h = refl
+  without-none out (r ∷ a) h = go (out r) h (length-without out a) (without-none out a)
+    where
+      go : (t : Bool) → length (unless t r (without out a)) ≡ suc (length a) → length (without out a) ≤ length a → (length (without out a) ≡ length a → without out a ≡ a)
+          → unless t r (without out a) ≡ r ∷ a
+      go true e m ih = absurd (omega arith)
+      go false e m ih = ap (λ (l : List R). r ∷ l) (ih (omega arith))
+
+  -- what a test and then another leave out is what either does
+  pub without-twice : (p q : R → Bool) (a : List R) → without q (without p a) ≡ without (λ r. p r || q r) a
+  without-twice p q [] = refl
+  without-twice p q (r ∷ a) = go (p r) (without-twice p q a)
+    where
+      go : (t : Bool) → without q (without p a) ≡ without (λ r. p r || q r) a → without q (unless t r (without p a)) ≡ unless (t || q r) r (without (λ r. p r || q r) a)
+      go true e = e
+      go false e = ap (unless (q r) r) e
+
+  pub drop-take : (i n : ℕ) (l : List R) → drop i (take n l) ≡ take (n - i) (drop i l)
+  drop-take zero n l = ap (λ (k : ℕ). take k l) (sym (sub-zero n))
+  drop-take (suc i) zero l = ap (λ (k : ℕ). take k (drop (suc i) l)) (sym (zero-sub (suc i)))
+  drop-take (suc i) (suc n) [] = sym (take-nil (suc n - suc i))
+  drop-take (suc i) (suc n) (r ∷ l) = drop-take i n l ∙ ap (λ (k : ℕ). take k (drop i l)) (sym (suc-sub-suc n i))
+
   -- behind p the list is as it was
-  past : (l p : List R) (j : ℕ) → length p ≤ j → drop j (p ++ drop (length p) l) ≡ drop j l
+  pub past : (l p : List R) (j : ℕ) → length p ≤ j → drop j (p ++ drop (length p) l) ≡ drop j l
   past l p j h =
       let n = j - length p in
       let here : length p + n ≡ j = omega arith in
@@ -97,6 +125,34 @@ module _ {R : Type 0} where
         ∙ set-at (kept i) (getD l n z) (drop (suc n) l) (getD l i z) n refl
         ∙ rw (kept-keep i h e, length-append, append-assoc, add-one)
 
+    -- the next m
+    pub kept-join : (i m : ℕ) → kept (i + m) ≡ kept i ++ without out (take m (drop i l))
+    kept-join i m = ap (without out) (take-add i m l) ∙ without-append out (take i l) (take m (drop i l))
+
+    pub kept-most : (i m : ℕ) → i + m ≤ length l → length (kept (i + m)) ≤ length (kept i) + m
+    kept-most i m h =
+        let n = ap length (kept-join i m) ∙ length-append (kept i) (without out (take m (drop i l))) in
+        let w = length-without out (take m (drop i l)) in
+        let t = length-take m (drop i l) in
+        omega arith
+
+    pub kept-least : (i m : ℕ) → length (kept i) ≤ length (kept (i + m))
+    kept-least i m = let n = ap length (kept-join i m) ∙ length-append (kept i) (without out (take m (drop i l))) in omega arith
+
+    -- as many are kept as there are: all of them
+    module _ (i m : ℕ) (h : i + m ≤ length l) (e : length (kept (i + m)) ≡ length (kept i) + m) where
+      pub kept-rest : kept (i + m) ≡ kept i ++ take m (drop i l)
+      kept-rest =
+          let n = ap length (kept-join i m) ∙ length-append (kept i) (without out (take m (drop i l))) in
+          let t = length-take-le m (drop i l) (simp length-drop (omega arith)) in
+          kept-join i m ∙ ap (λ (x : List R). kept i ++ x) (without-none out (take m (drop i l)) (omega arith))
+
+      -- they are moved down together
+      pub compact-rest : paste (compact i) (length (kept i)) (drop i (compact i)) m ≡ compact (i + m)
+      compact-rest =
+          let n = length (kept i) in
+          rw (take-append-seam (kept i) (drop n l), past l (kept i) i (kept-le i (omega arith)), past l (kept i) (n + m) (omega arith), e, kept-rest)
+
     -- what was compacted and then cleared
     pub compact-clear : (n : ℕ) → n ≤ length l → cleared z (compact n) (take (length (kept n)) (compact n)) n ≡ putFirst z n (kept n) l
     compact-clear n h =
@@ -150,3 +206,28 @@ module _ {R : Type 0} where
   -- a record put where it stands
   pub set-own : (z : R) (l : List R) (i : ℕ) → set l i (getD l i z) ≡ l
   set-own z l i = set-getD l i z
+
+  -- the first k of those from `from` on have been moved down to `to`
+  module _ (z : R) (l : List R) (from to : ℕ) (h : to ≤ from) where
+    abbrev pub down : ℕ → List R
+    down k = paste l to (drop from l) k
+
+    pub down-none : l ≡ down 0
+    down-none = paste-zero l to (drop from l)
+
+    module _ (k : ℕ) (fit : from + k < length l) where
+      behind : k < length (drop from l)
+      behind = simp length-drop (omega arith)
+
+      -- the next one stands where it stood
+      pub down-read : getD (down k) (from + k) z ≡ getD (drop from l) k z
+      down-read =
+          let there : to + k + (from - to) ≡ from + k = omega arith in
+          let at : (x : List R) → getD (drop (to + k) x) (from - to) z ≡ getD x (from + k) z = λ x. getD-drop (to + k) x (from - to) z ∙ ap (λ (i : ℕ). getD x i z) there in
+          sym (at (down k))
+          ∙ ap (λ (x : List R). getD x (from - to) z) (drop-paste l to (drop from l) k (omega arith) (let b = behind in omega arith))
+          ∙ at l
+          ∙ sym (getD-drop from l k z)
+
+      pub down-more : set (down k) (to + k) (getD (down k) (from + k) z) ≡ down (k + 1)
+      down-more = ap (set (down k) (to + k)) down-read ∙ paste-suc l to (drop from l) k z (omega arith) behind ∙ ap down (sym (add-one k))

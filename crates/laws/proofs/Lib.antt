@@ -7,6 +7,8 @@ pub mod Over
 pub mod Rows
 pub mod Compact
 pub mod Taking
+pub mod Leading
+pub mod Moves
 pub mod Order
 pub mod Ranges
 pub mod Sizes

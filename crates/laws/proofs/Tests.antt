@@ -4,7 +4,9 @@
 --     ..-of, counted-..       the same of the first n of a list, and of a table of which n count
 --     no, yes, ..-at          what a call's answer says of its definition, by the branch that was taken
 --     and-no, and-yes, both, one-of   tests joined
-use mathlib.Core.Path.{_≡_, sym, ap, _∙_}
+--     all-more                one more at the end of the first j
+--     any-all                 some element passes a test where not all fail it
+use mathlib.Core.Path.{_≡_, refl, sym, ap, _∙_}
 use mathlib.Core.Bool.{Bool, true, false, not, _&&_, _||_}
 use borrow.Author.Tests.{not-true, not-false, le-leb, lt-leb}
 use mathlib.Core.List.{List, [], _∷_}
@@ -18,7 +20,7 @@ use mir.Val.{toZ, ofZ, hbits}
 use mir.Facts.{toZ-ofZ}
 use lib.ListN.{length, take, drop, getD, drop-of-length-le}
 use lib.Seq.{drop-cons, getD-take, length-take-le}
-use Rattle.laws.specs.Lists.{all, counted}
+use Rattle.laws.specs.Lists.{all, any, counted}
 use Rattle.laws.proofs.Ranges.{left, right}
 
 abbrev pub Left : {A : Type 0} → (A → Bool) → List A → ℕ → Type 0
@@ -109,3 +111,20 @@ both p q = rw (p, q)
 
 pub one-of : {a a′ b b′ : Bool} → a ≡ a′ → b ≡ b′ → (a || b) ≡ (a′ || b′)
 one-of p q = rw (p, q)
+
+-- a test that holds of the first j and of the one at j
+pub all-more : {A : Type 0} (p : A → Bool) (l : List A) (j : ℕ) (d : A) → j < length l → all p (take j l) ≡ true → p (getD l j d) ≡ true → all p (take (suc j) l) ≡ true
+unfolding all
+all-more p [] j d h e q = absurd (not-suc-le-zero h)
+all-more p (x ∷ l) zero d h e q = rw q
+all-more p (x ∷ l) (suc j) d h e q = rw (left (p x) (all p (take j l)) e) (all-more p l j d (le-of-suc-le-suc h) (right (p x) (all p (take j l)) e) q)
+
+-- some element passes a test where not all fail it
+pub any-all : {A : Type 0} (p : A → Bool) (l : List A) → not (all (λ x. not (p x)) l) ≡ any p l
+unfolding all any
+any-all p [] = refl
+any-all p (x ∷ l) = go (p x) (any-all p l)
+  where
+    go : (t : Bool) → not (all (λ x. not (p x)) l) ≡ any p l → not (not t && all (λ x. not (p x)) l) ≡ (t || any p l)
+    go true e = refl
+    go false e = e

@@ -1,7 +1,7 @@
 -- Words for lists and for the counted part of a table, over any element.
-use mathlib.Core.Bool.{Bool, true, false, _&&_}
+use mathlib.Core.Bool.{Bool, true, false, cond, _&&_, _||_}
 use mathlib.Core.List.{List, [], _∷_, _++_}
-use Prim.Native.Nat.{ℕ, _-_, max}
+use Prim.Native.Nat.{ℕ, suc, _-_, max}
 use lib.Dec.{leb}
 use lib.ListN.{length, take, drop, replicate}
 
@@ -10,6 +10,16 @@ module _ {A : Type 0} where
   unfoldable pub all : (A → Bool) → List A → Bool
   all p [] = true
   all p (x ∷ xs) = p x && all p xs
+
+  -- p holds of some element
+  unfoldable pub any : (A → Bool) → List A → Bool
+  any p [] = false
+  any p (x ∷ xs) = p x || any p xs
+
+  -- how many at the front pass a test, up to the first that does not
+  abbrev pub leading : (A → Bool) → List A → ℕ
+  leading test [] = 0
+  leading test (x ∷ xs) = cond (test x) (suc (leading test xs)) 0
 
   -- at most `most` count, and p holds of those that do
   unfoldable pub counted : ℕ → ℕ → (A → Bool) → List A → Bool

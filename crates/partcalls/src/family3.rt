@@ -15,11 +15,13 @@ use eventlist::Taken;
 use eventlist::WIDTH;
 use eventlist::Window;
 use eventlist::append;
+use eventlist::clear_windows;
 use eventlist::list_ok;
+use eventlist::lone_window;
 use eventlist::read_event;
 use eventlist::records_ok;
 use eventlist::remove_pitch_bend_in_range;
-use eventlist::take_out;
+use eventlist::survey;
 use events::CONTROL_CHANGE;
 use events::Event;
 use events::PITCH_BEND;
@@ -121,11 +123,16 @@ fn remove(own: usize, count: usize, w: Window, events: &mut [i64], store: &[u8])
     if !is_target(as_i32(w.number)) {
         return of_list(refusal(2), own);
     }
-    if !(is_time(w.start) & is_time(w.end) & records_ok(events, count, store.len())) {
+    if !(is_time(w.start) & is_time(w.end)) {
         return of_list(refusal(4), own);
     }
-    let n = take_out(events, count, w);
-    of_list(done(), n)
+    let windows = lone_window(w);
+    let seen = survey(events, count, store.len(), &windows);
+    if !seen.ok {
+        return of_list(refusal(4), own);
+    }
+    let cleared = clear_windows(events, count, &windows, seen);
+    of_list(done(), cleared.left)
 }
 
 // 306.

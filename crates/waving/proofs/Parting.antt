@@ -1,20 +1,16 @@
 -- No target has two reservations, so all windows may be taken out before any event is added: no window reaches what the others add.
 --     parted    one after the other leaves what the passes leave
---     parts     no event is taken by two windows, so that what each takes may be counted by itself
 use mathlib.Core.Path.{_≡_, refl, sym, ap, ap₂, _∙_}
 use mathlib.Core.Bool.{Bool, true, false, cond, not, true≢false}
 use mathlib.Core.List.{List, [], _∷_, _++_, map, append-assoc, append-nil}
-use Prim.Native.Nat.{ℕ, suc, _+_, _-_, _<_}
-use native.Mathlib.Omega.{arith}
+use Prim.Native.Nat.{ℕ, _<_}
 use lib.Dec.{eqb}
 use lib.IntN.{pos, _+ℤ_}
 use lib.Signed.{leZ, ltZ}
-use lib.ListN.{length}
 use Rattle.laws.specs.Integers.{eqZ}
 use Rattle.laws.specs.Lists.{all, unless, without}
 use Rattle.laws.specs.Keys.{absent, distinct}
 use Rattle.laws.proofs.Ranges.{left, right}
-use Rattle.laws.proofs.Compact.{length-without}
 use Rattle.budget.specs.declared.Budget.{Budget}
 use Rattle.budget.specs.Budgets.{stepBudget}
 use Rattle.events.specs.declared.Event.{Event}
@@ -31,7 +27,7 @@ use Rattle.writing.proofs.Orders.{apart}
 use Rattle.cycles.specs.Due.{key}
 use Rattle.waving.specs.Drawings.{Drawing}
 use Rattle.waving.specs.Calls.{Stand, leaves, drawn, drawnAll}
-use Rattle.waving.specs.Passes.{Passes, noPass, passFirst, passes, windowAt, newsOf, withoutAll, gone}
+use Rattle.waving.specs.Passes.{Passes, noPass, passFirst, passes, windowAt, newsOf, withoutAll}
 use Rattle.waving.proofs.Clearing.{all-append}
 
 -- ---- lists
@@ -43,25 +39,6 @@ each-of p (x ∷ l) e = (left (p x) (all p l) e, each-of p l (right (p x) (all p
 without-keep : {A : Type 0} (p : A → Bool) (l : List A) → Each (λ (x : A). p x ≡ false) l → without p l ≡ l
 without-keep p [] h = refl
 without-keep {A} p (x ∷ l) h = ap (λ (t : Bool). unless t x (without p l)) (h .0) ∙ ap (λ (y : List A). x ∷ y) (without-keep p l (h .1))
-
--- what q takes is the same after p, where p takes none of it
-module _ {A : Type 0} (p q : A → Bool) (f : (x : A) → p x ≡ true → q x ≡ false) where
-  still-taken : (l : List A) → length (without p l) - length (without q (without p l)) ≡ length l - length (without q l)
-  still-taken [] = refl
-  still-taken (x ∷ l) = go (p x) refl (q x) refl (still-taken l)
-    where
-      go : (s : Bool) → p x ≡ s → (t : Bool) → q x ≡ t → length (without p l) - length (without q (without p l)) ≡ length l - length (without q l)
-          → length (unless s x (without p l)) - length (without q (unless s x (without p l))) ≡ suc (length l) - length (unless t x (without q l))
-      go true e true g ih = absurd (true≢false (sym g ∙ f x e))
-      go true e false g ih = ih ∙ omega arith
-      go false e true g ih =
-          let a = length-without q (without p l) in
-          let b = length-without q l in
-          ap (λ (t : Bool). suc (length (without p l)) - length (unless t x (without q (without p l)))) g ∙ omega arith
-      go false e false g ih =
-          let a = length-without q (without p l) in
-          let b = length-without q l in
-          ap (λ (t : Bool). suc (length (without p l)) - length (unless t x (without q (without p l)))) g ∙ omega arith
 
 -- ---- targets
 abbrev pub keyAt : Drawing → ℕ
@@ -168,30 +145,3 @@ parted (d ∷ ds) h b es = go (eqb (b .over) 0) (parted ds (rest-lone d ds h .1)
         → cond t (drawnAll ds (drawn d (record { budget = b; events = es }))) (record { budget = b; events = es }) ≡ inPasses (cond t (passFirst d b p) (noPass b)) es
     go true ih = ih ∙ ap (λ (x : List Event). record { budget = p .budget; events = x }) moved
     go false ih = nothing b es
-
--- ---- each window counted by itself
-gone-still : (d : Drawing) (b : Budget) (ws : List Window) (es : List Event) → Each (Spares d) ws → gone ws (without (takenBy (windowAt d b)) es) ≡ gone ws es
-unfolding gone
-gone-still d b [] es h = refl
-gone-still d b (w ∷ ws) es h =
-    ap₂ (λ (m n : ℕ). m + n)
-    (still-taken (takenBy (windowAt d b)) (takenBy w) (λ e k. h .0 e (mine (d .write) (total (d .pieces b)) e k)) es)
-    (gone-still d b ws es (h .1))
-
-pub parts : (ds : List Drawing) → Lone ds → (b : Budget) (es : List Event) → length (withoutAll (passes ds b .windows) es) + gone (passes ds b .windows) es ≡ length es
-unfolding passes withoutAll gone
-parts [] h b es = omega arith
-parts (d ∷ ds) h b es = go (eqb (b .over) 0) (parts ds (rest-lone d ds h .1) (leaves d b) (without (takenBy (windowAt d b)) es))
-  where
-    K : List Event
-    K = without (takenBy (windowAt d b)) es
-
-    p : Passes
-    p = passes ds (leaves d b)
-
-    go : (t : Bool) → length (withoutAll (p .windows) K) + gone (p .windows) K ≡ length K → length (withoutAll (cond t (passFirst d b p) (noPass b) .windows) es) + gone (cond t (passFirst d b p) (noPass b) .windows) es ≡ length es
-    go true ih =
-        let s : gone (p .windows) K ≡ gone (p .windows) es = gone-still d b (p .windows) es (spares d ds (leaves d b) (h .placed .0) (h .placed .1) (rest-lone d ds h .0)) in
-        let l = length-without (takenBy (windowAt d b)) es in
-        omega arith
-    go false ih = omega arith

@@ -2,6 +2,8 @@
 --     note-refused    a call that is refused leaves list, count and budget as they were
 --     flag-stops      with the flag set at entry nothing changes
 --     note-leaves     else the list is what no window took, with what was added behind it
+--     note-once, note-front, note-arrives
+--                     02, d): over the whole call a record of the list moves at most once, and none before the first that is taken
 --     note-bytes      the bytes used rise by 8 for each event that is added
 --     note-times      whose times are those of events
 --     wave-fills      an Expand or a Repeat lasts the note's steps, cut to the step budget (offers: Starting.long)
@@ -15,12 +17,17 @@ use lib.Dec.{eqb}
 use lib.IntN.{ℤ, pos}
 use lib.ListN.{length, getD, take}
 use Rattle.laws.specs.Lists.{all}
+use Rattle.laws.specs.Moves.{Move, timesMoved, carried, inFront, moves}
 use Rattle.laws.proofs.Parts.{all-append}
 use Rattle.numbers.specs.Ranges.{isTime, isLength}
 use Rattle.budget.specs.declared.Budget.{Budget}
 use Rattle.budget.specs.Budgets.{stepBudget}
 use Rattle.counted.specs.Numbers.{shown}
 use Rattle.events.specs.declared.Event.{Event}
+use Rattle.events.specs.Events.{zeroEvent}
+use Rattle.eventlist.specs.Rows.{rowsOf, eventsOf}
+use Rattle.eventlist.specs.Windows.{takenByAny}
+use Rattle.eventlist.proofs.Clearing.{moved-once, none-in-front, moves-arrive}
 use Rattle.sines.specs.Kinds.{sineType}
 use Rattle.values.specs.Options.{newOption}
 use Rattle.values.proofs.Options.{option-at, option-delay}
@@ -49,9 +56,10 @@ use Rattle.drawing.specs.Write.{writeOf}
 use Rattle.drawing.proofs.Asking.{some}
 use Rattle.waving.specs.Drawings.{Drawing, modeOf, waveDrawing, sineDrawing, drawingsOf}
 use Rattle.waving.specs.Calls.{Stand, leaves, drawn, drawnAll, noteSteps, afterNote, noteRefusal, noteWritten, noteLeft}
-use Rattle.waving.specs.Passes.{Passes, noPass, passFirst, passes, newsOf}
+use Rattle.waving.specs.Passes.{Passes, noPass, passFirst, passes, newsOf, withoutAll}
 use Rattle.waving.proofs.Reserved.{wave-fine}
 use Rattle.waving.proofs.Passing.{pass-used, leaves-maximum}
+use Rattle.waving.proofs.Clearing.{at-once}
 use Rattle.waving.proofs.Parting.{inPasses, parted}
 use Rattle.waving.proofs.Alone.{each-map, all-waves, all-sines, drawings-lone}
 
@@ -133,6 +141,23 @@ module _ (a : Track) (start : ℤ) (b : Budget) (h : okTrack a ≡ true) (t : is
 
   pub note-leaves : (es : List Event) → afterNote a start b es ≡ inPasses notePasses es
   note-leaves es = parted (drawingsOf (withTimepos a start) (noteSteps a start)) (drawings-lone (withTimepos a start) (noteSteps a start) at-start) b es
+
+  -- ---- the windows of all are taken out at once, of a list that holds `count` events
+  module _ (l : List ℤ) (count : ℕ) (fit : count ≤ length (rowsOf l)) where
+    abbrev noteMoves : List Move
+    noteMoves = moves (takenByAny (notePasses .windows)) (eventsOf l count)
+
+    -- the record at place k moves once, or not at all
+    pub note-once : (k : ℕ) → timesMoved k noteMoves ≤ 1
+    note-once k = moved-once (notePasses .windows) l count fit k
+
+    -- not at all, where it stands before the first that is taken
+    pub note-front : (k : ℕ) → k ≤ inFront (takenByAny (notePasses .windows)) (eventsOf l count) → timesMoved k noteMoves ≡ 0
+    note-front k h = none-in-front (notePasses .windows) l count fit k h
+
+    -- and these moves leave what no window took
+    pub note-arrives : take (length (withoutAll (notePasses .windows) (eventsOf l count))) (carried zeroEvent noteMoves (eventsOf l count)) ≡ withoutAll (notePasses .windows) (eventsOf l count)
+    note-arrives = rw (at-once (notePasses .windows) (eventsOf l count)) (moves-arrive (notePasses .windows) l count fit)
 
   pub note-bytes : (es : List Event) → afterNote a start b es .budget .used ≡ b .used + 8 * length (notePasses .news)
   note-bytes es = ap (λ (s : Stand). s .budget .used) (note-leaves es) ∙ pass-used (drawingsOf (withTimepos a start) (noteSteps a start)) b

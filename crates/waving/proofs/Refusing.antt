@@ -13,13 +13,15 @@ use Rattle.numbers.specs.Limits.{byteLimit}
 use Rattle.numbers.specs.Ranges.{isTime, isBytes}
 use Rattle.budget.specs.declared.Budget.{Budget}
 use Rattle.budget.specs.Budgets.{okBudget}
+use Rattle.events.specs.declared.Event.{Event}
 use Rattle.events.specs.Events.{zeroEvent}
 use Rattle.eventlist.specs.Rows.{numbersOf, rowsOf, eventsOf, Whole}
 use Rattle.eventlist.specs.Sound.{isList, okEvents}
 use Rattle.eventlist.proofs.EventRows.{flat-rowsOf}
 use Rattle.state.specs.declared.Track.{Track}
 use Rattle.state.specs.Tests.{okTrack}
-use Rattle.waving.specs.Calls.{Stand, rowsLeft, roomRefusal, afterNote, noteRefusal}
+use Rattle.waving.specs.Calls.{Stand, answerOf, rowsLeft, roomRefusal, afterNote, noteRefusal}
+use Rattle.waving.specs.Passes.{unstored}
 
 -- a budget that passes its test
 pub budget-small : (b : Budget) → okBudget b ≡ true → b .maximum ≤ 2 ^ 26
@@ -32,13 +34,24 @@ module _ (store : ℕ) (a : Track) (start : ℤ) (b : Budget) (l : List ℤ) (co
   no-list e = rw e
 
   module _ (list : isList l count ≡ true) where
-    pub no-numbers : (isTime start && okTrack a && okBudget b && okEvents store l count) ≡ false → noteRefusal store a start b l count ≡ 4
+    pub no-numbers : (isTime start && okTrack a && okBudget b) ≡ false → noteRefusal store a start b l count ≡ 4
     unfolding noteRefusal
     no-numbers e = rw (list, e)
 
-    pub well : (isTime start && okTrack a && okBudget b && okEvents store l count) ≡ true → noteRefusal store a start b l count ≡ roomRefusal (afterNote a start b (eventsOf l count)) (rowsOf l)
+    -- the records decide, and then the room
+    pub numbers-well : (isTime start && okTrack a && okBudget b) ≡ true
+        → noteRefusal store a start b l count ≡ cond (okEvents store l count) (roomRefusal (afterNote a start b (eventsOf l count)) (rowsOf l)) 4
     unfolding noteRefusal
-    well e = rw (list, e)
+    numbers-well e = rw (list, e)
+
+-- 4 where the records t fail, and else as n says
+pub answer-tested : (t : Bool) (n count : ℕ) (b : Budget) (s : Stand) → cond t (answerOf n count b s) (unstored count b) ≡ answerOf (cond t n 4) count b s
+answer-tested true n count b s = refl
+answer-tested false n count b s = refl
+
+pub rows-tested : (t : Bool) (n count : ℕ) (s : Stand) (R : List Event) → cond t (rowsLeft n count s R) R ≡ rowsLeft (cond t n 4) count s R
+rows-tested true n count s R = refl
+rows-tested false n count s R = refl
 
 -- the numbers of the rows that are left
 pub numbers-left : (l : List ℤ) → Whole l → (n count : ℕ) (s : Stand) → flat numbersOf (rowsLeft n count s (rowsOf l)) ≡ cond (eqb n 0) (flat numbersOf (putFirst zeroEvent count (s .events) (rowsOf l))) l

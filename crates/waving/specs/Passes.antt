@@ -3,7 +3,7 @@
 use mathlib.Core.Path.{_≡_}
 use mathlib.Core.Bool.{true, cond}
 use mathlib.Core.List.{List, [], _∷_, _++_}
-use Prim.Native.Nat.{ℕ, _+_, _-_, _*_, _≤_}
+use Prim.Native.Nat.{ℕ, _*_, _≤_}
 use lib.Dec.{eqb}
 use lib.ListN.{length, take}
 use Rattle.laws.specs.Lists.{without}
@@ -12,12 +12,13 @@ use Rattle.budget.specs.declared.Budget.{Budget}
 use Rattle.counted.specs.Numbers.{shown}
 use Rattle.events.specs.declared.Event.{Event}
 use Rattle.eventlist.specs.declared.Window.{Window}
-use Rattle.eventlist.specs.Windows.{takenBy}
+use Rattle.eventlist.specs.Windows.{windowWidth, windowsOf, takenBy}
 use Rattle.values.specs.Value.{Ready}
 use Rattle.offers.specs.declared.Piece.{Piece}
 use Rattle.offers.specs.Rules.{flagged}
 use Rattle.offers.specs.Pieces.{total}
 use Rattle.offers.specs.Waves.{triples}
+use Rattle.writing.specs.declared.Outcome.{Outcome}
 use Rattle.writing.specs.Calls.{windowOf, newEventsFor}
 use Rattle.writing.specs.Origins.{piecesOf}
 use Rattle.writing.specs.Figures.{budgetFor, Shaped}
@@ -55,11 +56,6 @@ unfoldable pub withoutAll : List Window → List Event → List Event
 withoutAll [] es = es
 withoutAll (w ∷ ws) es = withoutAll ws (without (takenBy w) es)
 
--- how many each takes, in all
-unfoldable pub gone : List Window → List Event → ℕ
-gone [] es = 0
-gone (w ∷ ws) es = (length es - length (without (takenBy w) es)) + gone ws es
-
 -- ---- what the code's own records say
 -- a track that passes its test, with tables of sixteen
 pub record Held (a : Track) : Type 0 where
@@ -93,8 +89,13 @@ pub record Drafts (r : Draft) (d : Drawing) (b : Budget) : Type 0 where
 abbrev pub figureLimit : ℕ
 figureLimit = 2 * places
 
--- a plan has the windows, and counts the events
+-- a plan has the windows, as numbers, and counts the events
 pub record Plans (r : Plan) (p : Passes) : Type 0 where
   pub few : r .count ≤ figureLimit
-  pub windows : take (r .count) (r .windows) ≡ p .windows
+  pub long : length (r .windows) ≡ figureLimit * windowWidth
+  pub windows : windowsOf (take (r .count * windowWidth) (r .windows)) ≡ p .windows
   pub added : r .added ≡ length (p .news)
+
+-- an event may not be stored: nothing is written
+abbrev pub unstored : ℕ → Budget → Outcome
+unstored count b = record { code = 4; count = count; budget = b }

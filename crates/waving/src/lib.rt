@@ -1,20 +1,20 @@
 // What a track's reserved waves and sines write at a note. Between two of them the list may be longer than the buffer, so a
 // call goes over them in passes: a plan of the windows that are taken out and of the events that are added, with nothing
-// written; the room asked once; then all windows taken out, and then all events added. No target has two reservations, so
-// this leaves what writing one after the other would.
+// written; the list tested, what the windows take counted with it, and the room asked; then all windows taken out at once,
+// so that a kept record moves at most once, and then all events added. No target has two reservations, so this leaves what
+// writing one after the other would.
 ghost use mathlib.Core.Path.{_≡_};
-ghost use mathlib.Core.Bool.{true};
+ghost use mathlib.Core.Bool.{true, cond};
 ghost use Prim.Native.Nat.{_+_, _≤_, _<_, _^_};
-ghost use lib.ListN.{length, take};
+ghost use lib.ListN.{length};
 ghost use Rattle.laws.specs.Integers.{cut};
-ghost use Rattle.laws.specs.Lists.{putFirst};
 ghost use Rattle.budget.specs.declared.Budget.{Budget};
 ghost use Rattle.budget.specs.Budgets.{stepBudget};
 ghost use Rattle.numbers.specs.Limits.{listLimit};
 ghost use Rattle.counted.specs.Numbers.{shown};
 ghost use Rattle.sines.specs.Table.{quarterTable};
-ghost use Rattle.events.specs.Events.{zeroEvent};
-ghost use Rattle.eventlist.specs.Rows.{rowsOf, eventsOf};
+ghost use Rattle.eventlist.specs.Rows.{rowsOf};
+ghost use Rattle.eventlist.specs.Sound.{okEvents};
 ghost use Rattle.offers.specs.Walks.{append};
 ghost use Rattle.offers.specs.Waves.{triples};
 ghost use Rattle.offers.specs.Sources.{Fine};
@@ -25,14 +25,16 @@ ghost use Rattle.writing.specs.Waves.{cutBy, waveTriples};
 ghost use Rattle.writing.specs.Figures.{addedTo, Shaped};
 ghost use Rattle.waving.specs.Drawings.{modeOf, waveDrawing, sineDrawing, drawingsOf, drawingAt};
 ghost use Rattle.waving.specs.Calls.{wroteAll, rowsAll, noteWritten, noteLeft};
-ghost use Rattle.waving.specs.Passes.{figureLimit, passes, withoutAll, gone, Held, Drawable, Drafts, Plans, eventsIn, budgetOf};
+ghost use Rattle.waving.specs.Passes.{passes, Held, Drawable, Drafts, Plans, eventsIn, budgetOf, unstored};
 use budget::Budget;
 use budget::budget_ok;
 use counted::Numbers;
 use drawing::write_of;
-use eventlist::Window;
+use eventlist::WINDOW;
+use eventlist::clear_windows;
 use eventlist::list_ok;
-use eventlist::records_ok;
+use eventlist::put_window;
+use eventlist::survey;
 use numbers::is_time;
 use offers::Mode;
 use sines::SineType;
@@ -47,6 +49,9 @@ use writing::Outcome;
 // As many waves and sines as a track may have.
 const FIGURES: usize = 32;
 
+// The numbers of their windows.
+const ROOM: usize = FIGURES * WINDOW;
+
 // A wave or a sine made ready for a note; `numbers` is the wave's list.
 struct Draft {
     write: Write,
@@ -54,10 +59,10 @@ struct Draft {
     numbers: Numbers,
 }
 
-// What a call will do: the windows that are taken out, `count` of them, and how many events are added.
+// What a call will do: the windows that are taken out, `count` of them, as numbers, and how many events are added.
 struct Plan {
     count: usize,
-    windows: [Window; FIGURES],
+    windows: [i64; ROOM],
     added: usize,
 }
 
@@ -166,20 +171,15 @@ fn plan_of(track: Track, n: u64, b: Budget, quarter: &[u32; 1025]) -> Plan
     requires { ⌜ Held track × (b .maximum ≤ 2 ^ 26) × (now quarter ≡ quarterTable) ⌝ }
     ensures { λ r. ⌜ Plans r (passes (drawingsOf track n) b) ⌝ }
 {
-    let none = Window {
-        kind: 0,
-        number: 0,
-        start: 0,
-        end: 0,
-    };
-    let mut windows: [Window; FIGURES] = [none; FIGURES];
+    let mut windows: [i64; ROOM] = [0; ROOM];
     let total = track.waves.count + track.sines.count;
     let mut rest = b;
     let mut i: usize = 0;
     while (i < total) & (rest.over == 0) {
         let d = draft_at(track, n, rest, i);
         let figure = d.figure;
-        windows[i] = writing::figure_window(d.write, figure);
+        let w = writing::figure_window(d.write, figure);
+        put_window(&mut windows, i, w);
         rest = foresee_draft(d, rest, quarter);
         i += 1;
     }
@@ -188,37 +188,6 @@ fn plan_of(track: Track, n: u64, b: Budget, quarter: &[u32; 1025]) -> Plan
         windows: windows,
         added: ((rest.used - b.used) / 8) as usize,
     }
-}
-
-// How many of the `count` events the first `m` windows take, each counted by itself.
-fn count_gone(events: &[i64], count: usize, windows: [Window; FIGURES], m: usize) -> usize
-    requires { ⌜ (count ≤ length (rowsOf (now events))) × (m ≤ figureLimit) ⌝ }
-    ensures { λ r. ⌜ r ≡ gone (take m windows) (eventsOf (now (events .entry)) count) ⌝ }
-{
-    let mut n: usize = 0;
-    let mut i: usize = 0;
-    while i < m {
-        let w = windows[i];
-        n += count - eventlist::count_kept(events, count, w);
-        i += 1;
-    }
-    n
-}
-
-// Takes the first `m` windows out of the `count` events and answers how many are left.
-fn take_all(events: &mut [i64], count: usize, windows: [Window; FIGURES], m: usize) -> usize
-    requires { ⌜ (count ≤ length (rowsOf (now events))) × (m ≤ figureLimit) ⌝ }
-    ensures { λ r. ⌜ (r ≡ length (withoutAll (take m windows) (eventsOf (now (events .entry)) count)))
-        × (rowsOf (now (events .exit)) ≡ putFirst zeroEvent count (withoutAll (take m windows) (eventsOf (now (events .entry)) count)) (rowsOf (now (events .entry)))) ⌝ }
-{
-    let mut n = count;
-    let mut i: usize = 0;
-    while i < m {
-        let w = windows[i];
-        n = eventlist::take_out(events, n, w);
-        i += 1;
-    }
-    n
 }
 
 // Puts the events of all waves and sines, until the flag is set, behind the first `count`, where there is room for them.
@@ -253,18 +222,33 @@ fn add_all(
     }
 }
 
-// Writes the waves and sines of a track that stands at a note's start, for a note of `n` steps: 7 where the list that this
-// would leave has no room, and then nothing is changed.
-fn write_all(track: Track, n: u64, b: Budget, events: &mut [i64], count: usize) -> Outcome
+// Writes the waves and sines of a track that stands at a note's start, for a note of `n` steps: 4 where an event may not be
+// stored beside `store` bytes, 7 where the list that this would leave has no room, and then nothing is changed.
+fn write_all(
+    track: Track,
+    n: u64,
+    b: Budget,
+    events: &mut [i64],
+    count: usize,
+    store: usize,
+) -> Outcome
     requires { ⌜ Held track × (b .maximum ≤ 2 ^ 26) × (count ≤ length (rowsOf (now events))) ⌝ }
-    ensures { λ r. ⌜ (r ≡ wroteAll (drawingsOf track n) b (rowsOf (now (events .entry))) count)
-        × (rowsOf (now (events .exit)) ≡ rowsAll (drawingsOf track n) b (rowsOf (now (events .entry))) count) ⌝ }
+    ensures { λ r. ⌜ (r ≡ cond (okEvents store (now (events .entry)) count) (wroteAll (drawingsOf track n) b (rowsOf (now (events .entry))) count) (unstored count b))
+        × (rowsOf (now (events .exit)) ≡ cond (okEvents store (now (events .entry)) count) (rowsAll (drawingsOf track n) b (rowsOf (now (events .entry))) count) (rowsOf (now (events .entry)))) ⌝ }
 {
     let quarter = sines::table::quarter_table();
     let plan = plan_of(track, n, b, &quarter);
     let windows = plan.windows;
-    let m = plan.count;
-    let kept = count - count_gone(events, count, windows, m);
+    let used = plan.count * WINDOW;
+    let seen = survey(events, count, store, &windows[..used]);
+    if !seen.ok {
+        return Outcome {
+            code: 4,
+            count: count,
+            budget: b,
+        };
+    }
+    let kept = count - seen.taken;
     if events.len() / 8 - kept < plan.added {
         return Outcome {
             code: 7,
@@ -272,8 +256,8 @@ fn write_all(track: Track, n: u64, b: Budget, events: &mut [i64], count: usize) 
             budget: b,
         };
     }
-    let left = take_all(events, count, windows, m);
-    add_all(track, n, b, events, left, &quarter)
+    let cleared = clear_windows(events, count, &windows[..used], seen);
+    add_all(track, n, b, events, cleared.left, &quarter)
 }
 
 // Writes the waves and then the sines that are reserved for the track's notes, over a note from `start` to the track's time;
@@ -300,7 +284,7 @@ pub fn write_cc_on_note_wave(
     let a = is_time(start);
     let b = track_ok(track);
     let c = budget_ok(budget);
-    if !(a & b & c & records_ok(events, count, store.len())) {
+    if !(a & b & c) {
         return Outcome {
             code: 4,
             count: count,
@@ -310,5 +294,5 @@ pub fn write_cc_on_note_wave(
     let n = offers::length_of(track.timepos - start);
     let mut at = track;
     at.timepos = start;
-    write_all(at, n, budget, events, count)
+    write_all(at, n, budget, events, count, store.len())
 }

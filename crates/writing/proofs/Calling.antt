@@ -1,6 +1,7 @@
 -- A whole write: what the counting run tells, the refusal, and the list that is left.
 --     new-is, after-is    what the runs come to is the closed form
 --     used-is             bytes: 8 for each event that is added
+--     lone-keeps, keeps-few   what is left by the window of a write, alone in a list of windows
 --     lacks-is, few-new   the refusal, of what the window keeps; and when it needs no counting
 --     rows-end, count-end, budget-end   what is left after the window was taken out and the events were appended
 use mathlib.Core.Path.{_≡_, refl, sym, ap, ap₂, _∙_}
@@ -11,15 +12,20 @@ use native.Mathlib.Nat.{mul-suc, mul-zero}
 use native.Mathlib.Omega.{arith}
 use borrow.Author.Tests.{lt-ltb, le-ltb, ltb-true, ltb-false}
 use lib.Dec.{ltb}
-use lib.IntN.{pos}
+use lib.IntN.{ℤ, pos}
 use lib.ListN.{length, take, drop, replicate, length-append}
-use lib.Seq.{take-append-seam}
-use Rattle.laws.specs.Lists.{putFirst}
-use Rattle.laws.proofs.Compact.{put-again}
+use lib.Seq.{length-take-le, take-append-seam}
+use Rattle.laws.specs.Lists.{without, putFirst}
+use Rattle.laws.proofs.Compact.{length-without, put-again}
 use Rattle.numbers.specs.Limits.{valueBytes}
 use Rattle.budget.specs.declared.Budget.{Budget}
 use Rattle.budget.specs.Budgets.{room, stepBudget}
 use Rattle.events.specs.declared.Event.{Event}
+use Rattle.eventlist.specs.declared.Window.{Window}
+use Rattle.eventlist.specs.Rows.{rowsOf, eventsOf}
+use Rattle.eventlist.specs.Windows.{takenBy, takenByAny}
+use Rattle.eventlist.specs.Clearing.{keptByAll}
+use Rattle.eventlist.proofs.Clearing.{windows-one}
 use Rattle.values.specs.declared.Write.{Write}
 use Rattle.values.specs.declared.Offer.{Offer}
 use Rattle.offers.specs.declared.Walk.{Walk}
@@ -30,7 +36,7 @@ use Rattle.offers.specs.declared.Piece.{Piece}
 use Rattle.offers.specs.Pieces.{offers, total}
 use Rattle.offers.proofs.Closed.{closed}
 use Rattle.offers.proofs.Stopping.{few, few-long, fresh-le}
-use Rattle.writing.specs.Calls.{keptEvents, lacksRoom, newEventsFor}
+use Rattle.writing.specs.Calls.{windowOf, keptEvents, lacksRoom, newEventsFor}
 
 -- where each offer becomes `per` events
 pub length-joined : (r : Rule) (per : ℕ) → ((o : Offer) (y : ℕ) → length (r .events o y) ≡ per) → (n : ℕ) (os : List Offer) (y : ℕ)
@@ -58,6 +64,15 @@ append-put z n rs more all =
     ∙ sym (append-assoc rs more (drop (length rs + length more) x))
     ∙ sym (ap₂ (λ (i j : ℕ). (rs ++ more) ++ (replicate i z ++ drop j x)) a b)
     ∙ put-again z n rs more all
+
+module _ (w : Write) (long : ℕ) (l : List ℤ) (count : ℕ) where
+  pub lone-keeps : {ws : List Window} → ws ≡ windowOf w long ∷ [] → keptByAll ws l count ≡ keptEvents w long (eventsOf l count)
+  unfolding keptEvents
+  lone-keeps e = ap (λ (ws : List Window). without (takenByAny ws) (eventsOf l count)) e ∙ windows-one (windowOf w long) (eventsOf l count)
+
+  pub keeps-few : count ≤ length (rowsOf l) → length (keptEvents w long (eventsOf l count)) ≤ count
+  unfolding keptEvents
+  keeps-few fit = omega (arith, length-take-le count (rowsOf l) fit, length-without (takenBy (windowOf w long)) (eventsOf l count))
 
 module _ (w : Write) (b : Budget) (os : List Offer) where
   abbrev pub from : Walk

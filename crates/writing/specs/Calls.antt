@@ -4,7 +4,7 @@ use mathlib.Core.Bool.{Bool, cond}
 use mathlib.Core.List.{List, _++_}
 use Prim.Native.Nat.{ℕ}
 use lib.Dec.{ltb}
-use lib.IntN.{pos, _+ℤ_}
+use lib.IntN.{ℤ, pos, _+ℤ_}
 use lib.ListN.{length, take}
 use Rattle.laws.specs.Lists.{without, putFirst}
 use Rattle.budget.specs.declared.Budget.{Budget}
@@ -12,6 +12,8 @@ use Rattle.budget.specs.Budgets.{stepBudget}
 use Rattle.events.specs.declared.Event.{Event}
 use Rattle.events.specs.Events.{zeroEvent}
 use Rattle.eventlist.specs.declared.Window.{Window}
+use Rattle.eventlist.specs.Rows.{rowsOf}
+use Rattle.eventlist.specs.Sound.{okEvents}
 use Rattle.eventlist.specs.Windows.{takenBy}
 use Rattle.values.specs.declared.Write.{Write}
 use Rattle.values.specs.declared.Offer.{Offer}
@@ -59,3 +61,12 @@ outcomeFor w b ts R count = outcomeOf w b (offers (w .freq) ts (stepBudget b) 0)
 
 abbrev pub rowsFor : Write → Budget → List Piece → List Event → ℕ → List Event
 rowsFor w b ts R count = rowsAfter w b (offers (w .freq) ts (stepBudget b) 0) (total ts) R count
+
+-- ---- into a list l whose events are tested first, beside a store of so many bytes: 4 is given for a number in "used events against the
+-- ranges and rules above", and changes nothing
+module _ (store : ℕ) (w : Write) (b : Budget) (ts : List Piece) (l : List ℤ) (count : ℕ) where
+  unfoldable pub outcomeTested : Outcome
+  outcomeTested = cond (okEvents store l count) (outcomeFor w b ts (rowsOf l) count) (record { code = 4; count = count; budget = b })
+
+  unfoldable pub rowsTested : List Event
+  rowsTested = cond (okEvents store l count) (rowsFor w b ts (rowsOf l) count) (rowsOf l)

@@ -4,7 +4,7 @@
 // Contracts are of the slice read whole as records, and of the budget by value.
 ghost use mathlib.Core.Path.{_≡_};
 ghost use mathlib.Core.Bool.{false};
-ghost use mathlib.Core.List.{List};
+ghost use mathlib.Core.List.{List, [], _∷_};
 ghost use Prim.Native.Nat.{_+_, _≤_, _<_, _^_, min, max};
 ghost use lib.Dec.{ltb};
 ghost use lib.Signed.{mag};
@@ -12,6 +12,8 @@ ghost use lib.ListN.{length};
 ghost use Rattle.sines.specs.Table.{quarterTable};
 ghost use Rattle.budget.specs.Budgets.{stepBudget};
 ghost use Rattle.eventlist.specs.Rows.{rowsOf};
+ghost use Rattle.eventlist.specs.Windows.{windowsOf};
+ghost use Rattle.eventlist.specs.Clearing.{Surveyed};
 ghost use Rattle.values.specs.Value.{Ready};
 ghost use Rattle.offers.specs.Rules.{ruleOf, flagged};
 ghost use Rattle.offers.specs.Walks.{walked, emitted, append};
@@ -20,11 +22,12 @@ ghost use Rattle.offers.specs.declared.Piece.{Piece};
 ghost use Rattle.offers.specs.Waves.{triples, triplesOf};
 ghost use Rattle.offers.specs.Sources.{restOf, Runs, Fine};
 ghost use Rattle.writing.specs.Origins.{piecesOf, Asked};
-ghost use Rattle.writing.specs.Calls.{windowOf, newEventsFor, lacksRoomFor, outcomeFor, rowsFor};
+ghost use Rattle.writing.specs.Calls.{windowOf, newEventsFor, outcomeFor, rowsFor, outcomeTested, rowsTested};
 ghost use Rattle.writing.specs.Waves.{cutBy, waveTriples};
 ghost use Rattle.writing.specs.Figures.{budgetFor, addedTo, Shaped};
 ghost use Rattle.writing.specs.Sines.{sinePiece, sinePieces};
 use budget::Budget;
+use eventlist::Seen;
 use eventlist::Window;
 use offers::Mode;
 use offers::Piece;
@@ -46,7 +49,8 @@ pub struct Written {
     pub count: usize,
 }
 
-// What a write answers: 0, or 7 where the list has no room; the count of events and the budget after it.
+// What a write answers: 0, or 4 where an event of the list may not be stored, or 7 where the list has no room; the count of
+// events and the budget after it.
 #[repr(C)]
 pub struct Outcome {
     pub code: u32,
@@ -304,35 +308,9 @@ fn lacks_room(
     free < ((after.used - b.used) / 8) as usize
 }
 
-// Whether the list that a write would leave has no room. Where the steps all find a place behind the list as it is, nobody
-// has to count what the window leaves.
-fn is_full(
-    w: Write,
-    b: Budget,
-    origin: Origin,
-    long: u64,
-    window: Window,
-    numbers: &[i32],
-    events: &[i64],
-    count: usize,
-    quarter: &[u32; 1025],
-) -> bool
-    requires { ⌜ Ready w × Asked (triples (now numbers)) origin × (now quarter ≡ quarterTable) × (long ≡ total (piecesOf (triples (now numbers)) origin)) ⌝ }
-    requires { ⌜ (window ≡ windowOf w long) × (count ≤ length (rowsOf (now events))) ⌝ }
-    ensures { λ r. ⌜ r ≡ lacksRoomFor w b (piecesOf (triples (now (numbers .entry))) origin) (rowsOf (now (events .entry))) count ⌝ }
-{
-    let limit = budget::safe_iteration_limit(b) as u64;
-    let rows = events.len() / 8;
-    if least(long, limit) <= (rows - count) as u64 {
-        return false;
-    }
-    let kept = eventlist::count_kept(events, count, window);
-    lacks_room(w, b, origin, long, numbers, rows - kept, quarter)
-}
-
-// A write of `long` steps, of any origin: its window is taken out and its events are appended; or, where the list that this
-// would leave has no room, nothing is changed and the answer is 7.
-pub fn write_core(
+// A write of `long` steps, of any origin, into a list in which the survey has `seen` what its window takes: that is taken out
+// and its events are appended; or, where the list that this would leave has no room, nothing is changed and the answer is 7.
+fn write_core(
     w: Write,
     b: Budget,
     origin: Origin,
@@ -340,34 +318,78 @@ pub fn write_core(
     numbers: &[i32],
     events: &mut [i64],
     count: usize,
+    windows: &[i64],
+    seen: Seen,
     quarter: &[u32; 1025],
 ) -> Outcome
     requires { ⌜ Ready w × Asked (triples (now numbers)) origin × (now quarter ≡ quarterTable) × (long ≡ total (piecesOf (triples (now numbers)) origin)) × (count ≤ length (rowsOf (now events))) ⌝ }
+    requires { ⌜ (windowsOf (now windows) ≡ windowOf w long ∷ []) × Surveyed (windowsOf (now windows)) (now events) count seen ⌝ }
     ensures { λ r. ⌜ (r ≡ outcomeFor w b (piecesOf (triples (now (numbers .entry))) origin) (rowsOf (now (events .entry))) count)
         × (rowsOf (now (events .exit)) ≡ rowsFor w b (piecesOf (triples (now (numbers .entry))) origin) (rowsOf (now (events .entry))) count) ⌝ }
 {
-    let window = window_of(w, long);
-    if is_full(w, b, origin, long, window, numbers, events, count, quarter) {
+    let free = events.len() / 8 - (count - seen.taken);
+    if lacks_room(w, b, origin, long, numbers, free, quarter) {
         return Outcome {
             code: 7,
             count: count,
             budget: b,
         };
     }
-    let n = eventlist::take_out(events, count, window);
+    let kept = eventlist::clear_windows(events, count, windows, seen);
     let limit = budget::safe_iteration_limit(b) as u64;
     let from = Walk {
         any: false,
         last: 0,
         budget: b,
     };
-    let done = write_run(w, from, origin, numbers, limit, events, n, quarter);
+    let done = write_run(w, from, origin, numbers, limit, events, kept.left, quarter);
     let after = done.walk.budget;
     Outcome {
         code: 0,
         count: done.count,
         budget: flag_if(after, limit < long),
     }
+}
+
+// The same, into a list that is not tested yet: one pass tests its events, beside a store of `store` bytes, and finds what
+// the window takes. Where one may not be stored nothing is changed and the answer is 4.
+fn write_tested(
+    w: Write,
+    b: Budget,
+    origin: Origin,
+    long: u64,
+    numbers: &[i32],
+    events: &mut [i64],
+    count: usize,
+    store: usize,
+    quarter: &[u32; 1025],
+) -> Outcome
+    requires { ⌜ Ready w × Asked (triples (now numbers)) origin × (now quarter ≡ quarterTable) × (long ≡ total (piecesOf (triples (now numbers)) origin)) × (count ≤ length (rowsOf (now events))) ⌝ }
+    ensures { λ r. ⌜ (r ≡ outcomeTested store w b (piecesOf (triples (now (numbers .entry))) origin) (now (events .entry)) count)
+        × (rowsOf (now (events .exit)) ≡ rowsTested store w b (piecesOf (triples (now (numbers .entry))) origin) (now (events .entry)) count) ⌝ }
+{
+    let window = window_of(w, long);
+    let windows = eventlist::lone_window(window);
+    let seen = eventlist::survey(events, count, store, &windows);
+    if !seen.ok {
+        return Outcome {
+            code: 4,
+            count: count,
+            budget: b,
+        };
+    }
+    write_core(
+        w,
+        b,
+        origin,
+        long,
+        numbers,
+        events,
+        count,
+        &windows,
+        seen,
+        quarter,
+    )
 }
 
 // A count of turns or of steps, which is never 0.
@@ -408,15 +430,16 @@ fn write_triples(
     n: u64,
     events: &mut [i64],
     count: usize,
+    store: usize,
 ) -> Outcome
     requires { ⌜ Ready w × Fine (now numbers) × (n ≤ 2 ^ 24) × (count ≤ length (rowsOf (now events))) ⌝ }
-    ensures { λ r. ⌜ (r ≡ outcomeFor w b (triplesOf mode (triples (now (numbers .entry))) n) (rowsOf (now (events .entry))) count)
-        × (rowsOf (now (events .exit)) ≡ rowsFor w b (triplesOf mode (triples (now (numbers .entry))) n) (rowsOf (now (events .entry))) count) ⌝ }
+    ensures { λ r. ⌜ (r ≡ outcomeTested store w b (triplesOf mode (triples (now (numbers .entry))) n) (now (events .entry)) count)
+        × (rowsOf (now (events .exit)) ≡ rowsTested store w b (triplesOf mode (triples (now (numbers .entry))) n) (now (events .entry)) count) ⌝ }
 {
     let quarter = sines::table::quarter_table();
     let source = offers::start_source(mode, numbers, n);
     let long = wave_long(mode, numbers, n);
-    write_core(
+    write_tested(
         w,
         b,
         Origin::Wave(source),
@@ -424,6 +447,7 @@ fn write_triples(
         numbers,
         events,
         count,
+        store,
         &quarter,
     )
 }
@@ -435,12 +459,13 @@ pub fn write_curve(
     numbers: &[i32],
     events: &mut [i64],
     count: usize,
+    store: usize,
 ) -> Outcome
     requires { ⌜ Ready w × Fine (now numbers) × (count ≤ length (rowsOf (now events))) ⌝ }
-    ensures { λ r. ⌜ (r ≡ outcomeFor w b (triples (now (numbers .entry))) (rowsOf (now (events .entry))) count)
-        × (rowsOf (now (events .exit)) ≡ rowsFor w b (triples (now (numbers .entry))) (rowsOf (now (events .entry))) count) ⌝ }
+    ensures { λ r. ⌜ (r ≡ outcomeTested store w b (triples (now (numbers .entry))) (now (events .entry)) count)
+        × (rowsOf (now (events .exit)) ≡ rowsTested store w b (triples (now (numbers .entry))) (now (events .entry)) count) ⌝ }
 {
-    write_triples(w, b, Mode::Normal, numbers, 0, events, count)
+    write_triples(w, b, Mode::Normal, numbers, 0, events, count, store)
 }
 
 // Whether a mode's note length is cut to the step budget.
@@ -484,16 +509,17 @@ pub fn write_sine(
     times: i32,
     events: &mut [i64],
     count: usize,
+    store: usize,
 ) -> Outcome
     requires { ⌜ Ready w × (mag low ≤ 16383) × (mag high ≤ 16383) × (mag len ≤ 2 ^ 20) × (mag times ≤ 2 ^ 20) × (count ≤ length (rowsOf (now events))) ⌝ }
-    ensures { λ r. ⌜ (r ≡ outcomeFor w b (sinePieces stype low high len times) (rowsOf (now (events .entry))) count)
-        × (rowsOf (now (events .exit)) ≡ rowsFor w b (sinePieces stype low high len times) (rowsOf (now (events .entry))) count) ⌝ }
+    ensures { λ r. ⌜ (r ≡ outcomeTested store w b (sinePieces stype low high len times) (now (events .entry)) count)
+        × (rowsOf (now (events .exit)) ≡ rowsTested store w b (sinePieces stype low high len times) (now (events .entry)) count) ⌝ }
 {
     let quarter = sines::table::quarter_table();
     let piece = sine_piece(stype, low, high, len, times);
     let none: [i32; 1] = [0];
     let long = piece.len;
-    write_core(
+    write_tested(
         w,
         b,
         Origin::Sine(piece),
@@ -501,6 +527,7 @@ pub fn write_sine(
         &none,
         events,
         count,
+        store,
         &quarter,
     )
 }

@@ -1,13 +1,12 @@
 -- `asked`: the tests in their order.
-use mathlib.Core.Path.{_≡_, ap}
-use mathlib.Core.Bool.{Bool, true, false, _&&_}
+use mathlib.Core.Path.{_≡_}
+use mathlib.Core.Bool.{true, false}
 use mir.Syntax.{w32}
 use borrow.Author.Tests.{not-true, not-false}
 use borrow.Author.Needs.{needs}
 use Rattle.laws.proofs.Tests.{no, yes, no-at, yes-at}
 use Rattle.numbers.specs.Ranges.{isTarget}
-use Rattle.eventlist.specs.Sound.{isList, okEvents}
-use Rattle.eventlist.proofs.Sound.{list-within}
+use Rattle.eventlist.specs.Sound.{isList}
 use Rattle.drawing.specs.Calls.{inOrder}
 use Rattle.drawing.proofs.asked.Statement.{statement}
 use Rattle.drawing.proofs.asked.Tie as tie
@@ -24,9 +23,11 @@ long c = not-true _ (c .if3 .taken)
 short : (c : tie.Else3) → c .before .before .before .before .before .args .short ≡ true
 short c = not-false _ (c .if3 .left)
 
-tested : (c : tie.After-records-ok)
-    → (let s = c .before .before .before .before .before .before .args in (s .usable && c .records-ok .result) ≡ (s .usable && okEvents (s .store) (s .events .now) (s .count)))
-tested c = ap (λ (t : Bool). c .before .before .before .before .before .before .args .usable && t) (c .records-ok .ensures)
+unusable : (c : tie.Then4) → c .before .before .before .before .before .before .args .usable ≡ false
+unusable c = not-true _ (c .if4 .taken)
+
+usable : (c : tie.Else4) → c .before .before .before .before .before .before .args .usable ≡ true
+usable c = not-false _ (c .if4 .left)
 
 list-ok-requires : tie.Need-list-ok-requires
 list-ok-requires c κs = search needs
@@ -48,22 +49,13 @@ returns-3 : tie.Need-returns-3
 unfolding inOrder
 returns-3 c = rw (listed (c .before .before .before), aimed (c .before), long c)
 
-records-ok-requires : tie.Need-records-ok-requires
-records-ok-requires c κs =
-    let s = c .before .before .before .before .before in
-    list-within (s .args .events .now) (s .args .count) (listed (c .before .before .before))
-
 returns-4 : tie.Need-returns-4
 unfolding inOrder
-returns-4 c =
-    let b = c .before .before in
-    rw (listed (b .before .before .before), aimed (b .before), short b, no (tested (c .before)) (c .if4 .taken))
+returns-4 c = let b = c .before in rw (listed (b .before .before .before), aimed (b .before), short b, unusable c)
 
 returns-5 : tie.Need-returns-5
 unfolding inOrder
-returns-5 c =
-    let b = c .before .before in
-    rw (listed (b .before .before .before), aimed (b .before), short b, yes (tested (c .before)) (c .if4 .left))
+returns-5 c = let b = c .before in rw (listed (b .before .before .before), aimed (b .before), short b, usable c)
 
 pub asked-spec : {M : Type 1} → statement M
 asked-spec =
@@ -74,6 +66,5 @@ asked-spec =
     is-target-requires
     returns-2
     returns-3
-    records-ok-requires
     returns-4
     returns-5)

@@ -16,7 +16,7 @@ use Rattle.counted.specs.Curves.{okCurve}
 use Rattle.writing.proofs.Allowed.{fine}
 use Rattle.drawing.specs.Write.{writeOf}
 use Rattle.drawing.specs.Calls.{Draw, drawWrite, onTime}
-use Rattle.drawing.proofs.Drawn.{asked-draw, asked-as, refused, well, allowed-well, ready-draw, count-well, tried}
+use Rattle.drawing.proofs.Drawn.{asked-first, asked-as, refused, well, allowed-well, ready-draw, count-well, tested}
 use Rattle.drawing.proofs.Listed.{laid-short, laid-test}
 use Rattle.drawing.proofs.write_on_time.Statement.{statement}
 use Rattle.drawing.proofs.write_on_time.Tie as tie
@@ -31,7 +31,7 @@ module _ (c : tie.After-asked) where
   abbrev v : List ℤ
   v = s .args .list .now
 
-  told : c .asked .result ≡ asked-draw draw
+  told : c .asked .result ≡ asked-first draw
   told =
       let k = c .before .before .before in
       let t = k .before .before in
@@ -40,7 +40,7 @@ module _ (c : tie.After-asked) where
       (rw (toZ-ofZ (s .fits .target)) at (c .asked .ensures)) (ap (λ (x : Listed). eqb (x .code) 0) listed ∙ laid-short v)
       (λ h. both (both (t .track-ok .ensures) (k .before .budget-ok .ensures)) (k .curve-ok .ensures ∙ ap (λ (x : Listed). okCurve (x .list)) listed ∙ laid-test v h))
 
-begun : (c : tie.Else1) → asked-draw (draw (c .before)) ≡ 0
+begun : (c : tie.Else1) → asked-first (draw (c .before)) ≡ 0
 begun c = sym (told (c .before)) ∙ c .if1 .left
 
 written : (c : tie.After-write-of) → c .write-of .result ≡ drawWrite (draw (c .before .before))
@@ -88,7 +88,7 @@ returns-2 c =
     let d = c .before in
     let w = d .before .before in
     let b = w .before in
-    tried (draw (b .before)) (begun b) (d .write-curve .result) (d .write-curve .last .1 .1 .1 .0) (d .write-curve .kept .1 .1 .1 .0) (written w) (d .write-curve .ensures)
+    tested (draw (b .before)) (d .write-curve .result) (d .write-curve .last .1 .1 .1 .0) (d .write-curve .kept .1 .1 .1 .0) (begun b) (written w) (d .write-curve .ensures)
 
 pub write-on-time-spec : {M : Type 1} → statement M
 write-on-time-spec =

@@ -19,7 +19,7 @@ use Rattle.writing.specs.Sines.{sinePieces}
 use Rattle.writing.proofs.Writes.{told-of}
 use Rattle.drawing.specs.Write.{writeOf}
 use Rattle.drawing.specs.Calls.{Draw, drawWrite, sineFor, onSine}
-use Rattle.drawing.proofs.Drawn.{asked-draw, asked-as, refused, allowed-well, ready-draw, count-well, tried}
+use Rattle.drawing.proofs.Drawn.{asked-first, asked-as, refused, allowed-well, ready-draw, count-well, tested}
 use Rattle.drawing.proofs.write_sine.Statement.{statement}
 use Rattle.drawing.proofs.write_sine.Tie as tie
 
@@ -33,7 +33,7 @@ module _ (c : tie.After-asked) where
   abbrev draw : Draw
   draw = onSine (s .args .track) sine (s .args .budget) (s .args .events .now) (s .args .count) (length (s .args .store .now))
 
-  told : c .asked .result ≡ asked-draw draw
+  told : c .asked .result ≡ asked-first draw
   told =
       let k = c .before .before in
       let t = k .before .before in
@@ -44,7 +44,7 @@ module _ (c : tie.After-asked) where
       both (both (t .track-ok .ensures) (k .before .budget-ok .ensures))
       (k .sine-ok .ensures ∙ rw (toZ-ofZ (f .target), toZ-ofZ (f .low), toZ-ofZ (f .high), toZ-ofZ (f .len), toZ-ofZ (f .times))))
 
-begun : (c : tie.Else1) → asked-draw (draw (c .before)) ≡ 0
+begun : (c : tie.Else1) → asked-first (draw (c .before)) ≡ 0
 begun c = sym (told (c .before)) ∙ c .if1 .left
 
 written : (c : tie.After-write-of) → c .write-of .result ≡ drawWrite (draw (c .before .before))
@@ -107,8 +107,8 @@ returns-2 c =
     let b = w .before in
     let a = s (b .before) in
     let l = d .write-sine .last .1 .1 .1 .1 .1 .1 .1 .0 in
-    tried (draw (b .before)) (begun b) (d .write-sine .result) l (d .write-sine .kept .1 .1 .1 .1 .1 .1 .1 .0) (written w)
-    (told-of (w .write-of .result) (a .args .budget) (rowsOf (a .args .events .now)) (a .args .count) (d .write-sine .result) (rowsOf l)
+    tested (draw (b .before)) (d .write-sine .result) l (d .write-sine .kept .1 .1 .1 .1 .1 .1 .1 .0) (begun b) (written w)
+    (told-of (length (a .args .store .now)) (w .write-of .result) (a .args .budget) (a .args .events .now) (a .args .count) (d .write-sine .result) (rowsOf l)
     (rw (toZ-ofZ (a .fits .low), toZ-ofZ (a .fits .high), toZ-ofZ (a .fits .len), toZ-ofZ (a .fits .times))
     (ap (λ (x : SineType). sinePieces x (a .args .low) (a .args .high) (a .args .len) (a .args .times)) (shaped t)))
     (d .write-sine .ensures))

@@ -5,23 +5,26 @@ use Prim.Native.Nat.{_+_, _-_, _*_, _≤_, _<_, _^_}
 use native.Mathlib.Omega.{arith}
 use borrow.Author.Needs.{needs}
 use borrow.Author.Tests.{ltb-true}
-use lib.ListN.{length, take, drop, length-set}
+use lib.ListN.{length, take, drop}
 use Rattle.laws.proofs.Ranges.{left}
 use Rattle.budget.specs.declared.Budget.{Budget}
 use Rattle.counted.specs.Numbers.{shown}
 use Rattle.offers.specs.Waves.{triples}
+use Rattle.eventlist.specs.Windows.{windowsOf}
+use Rattle.eventlist.proofs.WindowRows.{length-windowsOf}
 use Rattle.writing.proofs.Origins.{far}
 use Rattle.state.proofs.Stored.{waves-few, sines-few}
 use Rattle.waving.specs.Drawings.{drawingsOf}
 use Rattle.waving.specs.Passes.{Passes, passes}
 use Rattle.waving.proofs.Places.{drawings-long, next-drawing}
+use Rattle.waving.proofs.Clearing.{first-windows}
 use Rattle.waving.proofs.Passing.{Passing, begun, ended, further, window-further, stops, pass-used, drafts-budget, drafts-window}
 use Rattle.waving.proofs.plan_of.Statement.{statement}
 use Rattle.waving.proofs.plan_of.Tie as tie
 
 abbrev Inv-loop : tie.InvT-loop
 Inv-loop track n b quarter windows₀ total rest₀ i₀ windows rest i =
-    Passing (drawingsOf track n) b i rest × (length windows ≡ 32) × (take i windows ++ passes (drop i (drawingsOf track n)) rest .windows ≡ passes (drawingsOf track n) b .windows)
+    Passing (drawingsOf track n) b i rest × (length windows ≡ 128) × (take i (windowsOf windows) ++ passes (drop i (drawingsOf track n)) rest .windows ≡ passes (drawingsOf track n) b .windows)
 
 abbrev μ-loop : tie.MeasureT-loop
 μ-loop track n b quarter windows₀ total rest₀ i₀ windows rest i = total - i
@@ -42,6 +45,10 @@ module _ (t : tie.Then1 Inv-loop μ-loop) where
 
   most : head .loop .rest .maximum ≤ 2 ^ 26
   most = let m = head .loop .inv .0 .most in let p = start .pre .1 in omega arith
+
+  -- a window has its place
+  held : head .loop .i < length (windowsOf (head .loop .windows))
+  held = let n = head .loop .inv .1 in let w = length-windowsOf (head .loop .windows) in omega (arith, inside, total-few start)
 
 -- after the last
 module _ (e : tie.Else1 Inv-loop μ-loop) where
@@ -72,24 +79,25 @@ figure-window-requires c κs =
     let l = a .shaped .long in
     (a .ready, omega arith)
 
-mul-windows : tie.Need-mul-windows Inv-loop μ-loop
-mul-windows c = let t = c .before .before .before in omega (arith, inside t, total-few (start t))
+slice-aggregate-put-window : tie.Need-slice-aggregate-put-window Inv-loop μ-loop
+slice-aggregate-put-window c = sym (c .before .before .before .before .before .before .loop .inv .1)
 
-array-set-from-windows : tie.Need-array-set-from-windows Inv-loop μ-loop
-array-set-from-windows c = let t = c .before .before .before in omega (arith, inside t, total-few (start t))
+put-window-requires : tie.Need-put-window-requires Inv-loop μ-loop
+put-window-requires c κs = held (c .before .before .before .before)
 
 foresee-draft-requires : tie.Need-foresee-draft-requires Inv-loop μ-loop
-foresee-draft-requires c κs = let d = c .before .before in (d .draft-at .ensures .able, start (d .before) .pre .2)
+foresee-draft-requires c κs = let d = c .before .before .before .before .before in (d .draft-at .ensures .able, start (d .before) .pre .2)
 
 add-i : tie.Need-add-i Inv-loop μ-loop
-add-i c = let t = c .before .before .before .before in omega (arith, inside t, total-few (start t))
+add-i c = let t = c .before .before .before .before .before .before .before in omega (arith, inside t, total-few (start t))
 
 loop-less : tie.Need-loop-less Inv-loop μ-loop
-loop-less c = let t = c .before .before .before .before in omega (arith, inside t)
+loop-less c = let t = c .before .before .before .before .before .before .before in omega (arith, inside t)
 
 loop-again : tie.Need-loop-again Inv-loop μ-loop
 loop-again c =
-    let f = c .before in
+    let o = c .before .before in
+    let f = o .before .before in
     let d = f .before .before in
     let t = d .before in
     let l = head t in
@@ -100,18 +108,20 @@ loop-again c =
     let next = next-drawing (A .track) (s .pre .0) (A .n) (l .loop .i) (inside t) in
     let v = l .loop .inv in
     let D = d .draft-at .ensures in
-    let left = c .foresee-draft .ensures ∙ drafts-budget (d .draft-at .result) _ (l .loop .rest) D in (
+    let left = c .foresee-draft .ensures ∙ drafts-budget (d .draft-at .result) _ (l .loop .rest) D in
+    let more =
+    window-further ds (A .b) (l .loop .i) _ (l .loop .rest) long (v .0) _ next (t .if1 .taken) (windowsOf (l .loop .windows)) (held t)
+    (f .figure-window .ensures ∙ drafts-window (d .draft-at .result) _ (l .loop .rest) D) left (v .2) in (
       further ds (A .b) (l .loop .i) _ (l .loop .rest) long (v .0) _ next (t .if1 .taken) left,
-      rw length-set (v .1),
-      window-further ds (A .b) (l .loop .i) _ (l .loop .rest) long (v .0) _ next (t .if1 .taken) (l .loop .windows) (let n = v .1 in omega (arith, inside t, total-few s))
-          (f .figure-window .ensures ∙ drafts-window (d .draft-at .result) _ (l .loop .rest) D) left (v .2),
+      o .put-window .kept .0 ∙ v .1,
+      rw (o .put-window .ensures) more,
     )
 
-sub-t20 : tie.Need-sub-t20 Inv-loop μ-loop
-sub-t20 c = let u = used (c .before .before) in omega arith
+sub-t19 : tie.Need-sub-t19 Inv-loop μ-loop
+sub-t19 c = let u = used (c .before .before) in omega arith
 
-cast-t22 : tie.Need-cast-t22 Inv-loop μ-loop
-cast-t22 c = search needs
+cast-t21 : tie.Need-cast-t21 Inv-loop μ-loop
+cast-t21 c = search needs
 
 returns : tie.Need-returns Inv-loop μ-loop
 returns c =
@@ -123,9 +133,16 @@ returns c =
     let long = drawings-long (A .track) (s .pre .0) (A .n) in
     let v = l .loop .inv in
     let u = used e in
+    let m : l .loop .i ≤ 32 = let w = v .0 .within in omega (arith, long, total-few s) in
+    let ws = take (l .loop .i) (windowsOf (l .loop .windows)) in
     record {
-      few = let w = v .0 .within in omega (arith, long, total-few s);
-      windows = sym (append-nil (take (l .loop .i) (l .loop .windows))) ∙ sym (ap (λ (p : Passes). take (l .loop .i) (l .loop .windows) ++ p .windows) (stops ds (l .loop .i) _ (l .loop .rest) long (e .if1 .left))) ∙ v .2;
+      few = m;
+      long = v .1;
+      windows =
+          first-windows (l .loop .i) (l .loop .windows) (let n = v .1 in omega arith)
+          ∙ sym (append-nil ws)
+          ∙ sym (ap (λ (p : Passes). ws ++ p .windows) (stops ds (l .loop .i) _ (l .loop .rest) long (e .if1 .left)))
+          ∙ v .2;
       added = omega arith;
     }
 
@@ -139,12 +156,12 @@ plan-of-spec =
     loop-holds
     draft-at-requires
     figure-window-requires
-    mul-windows
-    array-set-from-windows
+    slice-aggregate-put-window
+    put-window-requires
     foresee-draft-requires
     add-i
     loop-less
     loop-again
-    sub-t20
-    cast-t22
+    sub-t19
+    cast-t21
     returns)

@@ -1,7 +1,7 @@
 -- `write_cc_on_note_wave` meets its contract: the tests in their order (Refusing), then what the passes leave, which for a whole
 -- number of records says every number (`determined`).
 use mathlib.Core.Path.{_≡_, sym, ap, subst, _∙_}
-use mathlib.Core.Bool.{Bool, true, _&&_}
+use mathlib.Core.Bool.{Bool, true, cond, _&&_}
 use mathlib.Core.List.{List}
 use Prim.Native.Nat.{ℕ, _≤_, _^_}
 use native.Mathlib.Omega.{arith}
@@ -35,19 +35,20 @@ use Rattle.state.proofs.Parts.{track-play}
 use Rattle.state.proofs.Play.{play-time}
 use Rattle.state.proofs.Keeping.{timepos-kept}
 use Rattle.waving.specs.Drawings.{drawingsOf}
-use Rattle.waving.specs.Calls.{noteSteps, roomRefusal, afterNote, wroteAll, rowsAll}
-use Rattle.waving.specs.Passes.{Held}
-use Rattle.waving.proofs.Refusing.{budget-small, no-list, no-numbers, well, numbers-left}
+use Rattle.waving.specs.Calls.{Stand, noteSteps, roomRefusal, afterNote, wroteAll, rowsAll}
+use Rattle.waving.specs.Passes.{Held, unstored}
+use Rattle.waving.proofs.Refusing.{budget-small, no-list, no-numbers, numbers-well, answer-tested, rows-tested, numbers-left}
 use borrow.Author.Needs.{needs}
 use Rattle.waving.proofs.write_cc_on_note_wave.Statement.{statement}
 use Rattle.waving.proofs.write_cc_on_note_wave.Tie as tie
 
 -- what the passes leave, of a note's start and its steps
-abbrev Wrote : Track → Budget → List Event → ℕ → Outcome → List Event → ℤ → ℕ → Type 0
-Wrote a b R count r R′ z n = (r ≡ wroteAll (drawingsOf (withTimepos a z) n) b R count) × (R′ ≡ rowsAll (drawingsOf (withTimepos a z) n) b R count)
+module _ (a : Track) (b : Budget) (ok : Bool) (R : List Event) (count : ℕ) (r : Outcome) (R′ : List Event) where
+  abbrev Wrote : ℤ → ℕ → Type 0
+  Wrote z n = (r ≡ cond ok (wroteAll (drawingsOf (withTimepos a z) n) b R count) (unstored count b)) × (R′ ≡ cond ok (rowsAll (drawingsOf (withTimepos a z) n) b R count) R)
 
-told : (a : Track) (b : Budget) (R : List Event) (count : ℕ) (r : Outcome) (R′ : List Event) {x y : ℤ} {m n : ℕ} → x ≡ y → m ≡ n → Wrote a b R count r R′ x m → Wrote a b R count r R′ y n
-told a b R count r R′ {x} {n} p q h = subst (λ (z : ℤ). Wrote a b R count r R′ z n) p (subst (λ (k : ℕ). Wrote a b R count r R′ x k) q h)
+  told : {x y : ℤ} {m n : ℕ} → x ≡ y → m ≡ n → Wrote x m → Wrote y n
+  told {x} {n} p q h = subst (λ (z : ℤ). Wrote z n) p (subst (λ (k : ℕ). Wrote x k) q h)
 
 -- the slice, the store's bytes and the numbers' test, of a call
 module _ (s : tie.Start) where
@@ -60,43 +61,34 @@ module _ (s : tie.Start) where
   abbrev three : Bool
   three = isTime (s .args .start) && okTrack (s .args .track) && okBudget (s .args .budget)
 
-  abbrev numbers : Bool
-  numbers = three && okEvents bytes l (s .args .count)
-
 -- past the first test
 listed : (c : tie.Else1) → isList (l (c .before .before .before .before)) (c .before .before .before .before .args .count) ≡ true
 listed c = yes (c .before .list-ok .ensures) (c .if1 .left)
 
 -- at the second
-module _ (c : tie.After-records-ok) where
+module _ (c : tie.After-budget-ok) where
   abbrev second : tie.Else1
-  second = c .before .before .before .before .before
+  second = c .before .before .before
 
   abbrev begun : tie.Start
   begun = second .before .before .before .before
 
-  asked : (c .before .before .before .before .is-time .result && c .before .before .before .track-ok .result && c .before .before .budget-ok .result && c .records-ok .result) ≡ numbers begun
-  asked =
-      both
-      (both (both (is-at w64 isTime (begun .fits .start .sfits) (c .before .before .before .before .is-time .ensures)) (c .before .before .before .track-ok .ensures)) (c .before .before .budget-ok .ensures))
-      (c .records-ok .ensures)
+  asked : (c .before .before .is-time .result && c .before .track-ok .result && c .budget-ok .result) ≡ three begun
+  asked = both (both (is-at w64 isTime (begun .fits .start .sfits) (c .before .before .is-time .ensures)) (c .before .track-ok .ensures)) (c .budget-ok .ensures)
 
 -- past it
 module _ (c : tie.Else2) where
   abbrev s : tie.Start
   s = begun (c .before)
 
-  held : numbers s ≡ true
+  held : three s ≡ true
   held = yes (asked (c .before)) (c .if2 .left)
 
-  to-three : three s ≡ true
-  to-three = left (three s) (okEvents (bytes s) (l s) (s .args .count)) held
-
   spent : okBudget (s .args .budget) ≡ true
-  spent = right (isTime (s .args .start) && okTrack (s .args .track)) (okBudget (s .args .budget)) to-three
+  spent = right (isTime (s .args .start) && okTrack (s .args .track)) (okBudget (s .args .budget)) held
 
   two : (isTime (s .args .start) && okTrack (s .args .track)) ≡ true
-  two = left (isTime (s .args .start) && okTrack (s .args .track)) (okBudget (s .args .budget)) to-three
+  two = left (isTime (s .args .start) && okTrack (s .args .track)) (okBudget (s .args .budget)) held
 
   in-time : isTime (s .args .start) ≡ true
   in-time = left (isTime (s .args .start)) (okTrack (s .args .track)) two
@@ -148,12 +140,6 @@ track-ok-requires c κs = search needs
 budget-ok-requires : tie.Need-budget-ok-requires
 budget-ok-requires c κs = search needs
 
-records-ok-requires : tie.Need-records-ok-requires
-records-ok-requires c κs =
-    let e = c .before .before .before .before in
-    let t = e .before .before .before .before in
-    list-within (l t) (t .args .count) (listed e)
-
 same-length-2 : tie.Need-same-length-2
 same-length-2 c = search needs
 
@@ -187,11 +173,17 @@ returns-3 c =
     let A = t .args in
     let list = listed (second (e .before)) in
     let whole = list-whole (l t) (A .count) list in
-    let S = afterNote (A .track) (A .start) (A .budget) (eventsOf (l t) (A .count)) in
+    let S : Stand = afterNote (A .track) (A .start) (A .budget) (eventsOf (l t) (A .count)) in
+    let ok : Bool = okEvents (bytes t) (l t) (A .count) in
+    let full : ℕ = roomRefusal S (rowsOf (l t)) in
     let steps : n .length-of .result ≡ noteSteps (A .track) (A .start) = n .length-of .ensures ∙ ap cut (sub-back (time-fits e) (t .fits .start) (span-fits e)) in
-    let h = told (A .track) (A .budget) (rowsOf (l t)) (A .count) (w .write-all .result) (rowsOf (w .write-all .last .1 .1 .1 .0)) (toZ-ofZ (t .fits .start)) steps (w .write-all .ensures) in
-    let q = well (bytes t) (A .track) (A .start) (A .budget) (l t) (A .count) list (held e) in
-    rw q (h .0, determined (l t) (w .write-all .last .1 .1 .1 .0) _ whole (w .write-all .kept .1 .1 .1 .0) (h .1) ∙ numbers-left (l t) whole (roomRefusal S (rowsOf (l t))) (A .count) S)
+    let h = told (A .track) (A .budget) ok (rowsOf (l t)) (A .count) (w .write-all .result) (rowsOf (w .write-all .last .1 .1 .1 .0)) (toZ-ofZ (t .fits .start)) steps (w .write-all .ensures) in
+    let q = numbers-well (bytes t) (A .track) (A .start) (A .budget) (l t) (A .count) list (held e) in
+    rw q (
+      h .0 ∙ answer-tested ok full (A .count) (A .budget) S,
+      determined (l t) (w .write-all .last .1 .1 .1 .0) _ whole (w .write-all .kept .1 .1 .1 .0) (h .1 ∙ rows-tested ok full (A .count) S (rowsOf (l t)))
+          ∙ numbers-left (l t) whole (cond ok full 4) (A .count) S,
+    )
 
 pub write-cc-on-note-wave-spec : {M : Type 1} → statement M
 write-cc-on-note-wave-spec =
@@ -203,7 +195,6 @@ write-cc-on-note-wave-spec =
     is-time-requires
     track-ok-requires
     budget-ok-requires
-    records-ok-requires
     same-length-2
     returns-2
     sub-length-of

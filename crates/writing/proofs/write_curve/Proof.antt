@@ -16,7 +16,7 @@ returns : tie.Need-returns
 returns c =
     let d = c .before in
     let s = d .before .before in
-    told-of (s .args .w) (s .args .b) (rowsOf (s .args .events .now)) (s .args .count) (d .write-triples .result) (rowsOf (d .write-triples .last .1 .1 .1 .1 .1 .0))
+    told-of (s .args .store) (s .args .w) (s .args .b) (s .args .events .now) (s .args .count) (d .write-triples .result) (rowsOf (d .write-triples .last .1 .1 .1 .1 .1 .0))
     (same-wave-normal (triples (s .args .numbers .now)) 0) (d .write-triples .ensures)
 
 pub write-curve-spec : {M : Type 1} → statement M

@@ -18,11 +18,11 @@ quarter-table-requires c κs = search needs
 sine-piece-requires : tie.Need-sine-piece-requires
 sine-piece-requires c κs = search needs
 
-slice-aggregate-write-core : tie.Need-slice-aggregate-write-core
-slice-aggregate-write-core c = search needs
+slice-aggregate-write-tested : tie.Need-slice-aggregate-write-tested
+slice-aggregate-write-tested c = search needs
 
-write-core-requires : tie.Need-write-core-requires
-write-core-requires c κs =
+write-tested-requires : tie.Need-write-tested-requires
+write-tested-requires c κs =
     let p = c .before .before .before in
     let s = p .before .before in
     (s .pre .0, p .sine-piece .ensures .1, p .before .quarter-table .ensures, sym (sine-total (triples (pos 0 ∷ [])) {origin = Sine (p .sine-piece .result)} refl), s .pre .5)
@@ -35,10 +35,10 @@ returns c =
     let d = c .before in
     let p = d .before .before .before .before in
     let s = p .before .before in
-    told-of (s .args .w) (s .args .b) (rowsOf (s .args .events .now)) (s .args .count) (d .write-core .result) (rowsOf (d .write-core .last .1 .1 .1 .1 .1 .0))
+    told-of (s .args .store) (s .args .w) (s .args .b) (s .args .events .now) (s .args .count) (d .write-tested .result) (rowsOf (d .write-tested .last .1 .1 .1 .1 .1 .0))
     (sine-gives (triples (pos 0 ∷ [])) (sinePiece (s .args .stype) (s .args .low) (s .args .high) (s .args .len) (s .args .times))
     (p .sine-piece .ensures .0 ∙ rw (toZ-ofZ (s .fits .low), toZ-ofZ (s .fits .high), toZ-ofZ (s .fits .len), toZ-ofZ (s .fits .times))))
-    (d .write-core .ensures)
+    (d .write-tested .ensures)
 
 pub write-sine-spec : {M : Type 1} → statement M
 write-sine-spec =
@@ -46,7 +46,7 @@ write-sine-spec =
     (tie.spec
     quarter-table-requires
     sine-piece-requires
-    slice-aggregate-write-core
-    write-core-requires
+    slice-aggregate-write-tested
+    write-tested-requires
     same-length
     returns)

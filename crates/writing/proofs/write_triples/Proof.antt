@@ -19,8 +19,8 @@ start-source-requires c κs = search needs
 wave-long-requires : tie.Need-wave-long-requires
 wave-long-requires c κs = search needs
 
-write-core-requires : tie.Need-write-core-requires
-write-core-requires c κs =
+write-tested-requires : tie.Need-write-tested-requires
+write-tested-requires c κs =
     let v = c .before .before in
     let o = v .before in
     let s = o .before .before in
@@ -42,8 +42,8 @@ returns c =
     let o = d .before .before .before .before in
     let s = o .before .before in
     let l = triples (s .args .numbers .now) in
-    told-of (s .args .w) (s .args .b) (rowsOf (s .args .events .now)) (s .args .count) (d .write-core .result) (rowsOf (d .write-core .last .1 .1 .1 .1 .1 .0))
-    (wave-gives (s .args .mode) l (s .args .n) (o .start-source .ensures)) (d .write-core .ensures)
+    told-of (s .args .store) (s .args .w) (s .args .b) (s .args .events .now) (s .args .count) (d .write-tested .result) (rowsOf (d .write-tested .last .1 .1 .1 .1 .1 .0))
+    (wave-gives (s .args .mode) l (s .args .n) (o .start-source .ensures)) (d .write-tested .ensures)
 
 pub write-triples-spec : {M : Type 1} → statement M
 write-triples-spec =
@@ -52,6 +52,6 @@ write-triples-spec =
     quarter-table-requires
     start-source-requires
     wave-long-requires
-    write-core-requires
+    write-tested-requires
     same-length
     returns)

@@ -1,10 +1,13 @@
--- `remove` is safe: a list that is one holds its count of records.
+-- `remove` is safe: a list that is one holds its count of records, and a survey says what the window takes.
 use Prim.Native.Nat.{_≤_}
+use borrow.Author.Needs.{needs}
+use borrow.Author.Tests.{not-false}
 use lib.ListN.{length}
 use Rattle.laws.proofs.Tests.{yes}
 use Rattle.eventlist.specs.Rows.{rowsOf}
+use Rattle.eventlist.specs.Windows.{windowsOf}
 use Rattle.eventlist.proofs.Sound.{list-within}
-use borrow.Author.Needs.{needs}
+use Rattle.eventlist.proofs.Surveying.{surveyed}
 use Rattle.partcalls.proofs.family3.remove.Statement.{statement}
 use Rattle.partcalls.proofs.family3.remove.Tie as tie
 
@@ -52,9 +55,6 @@ is-time-requires c κs = search needs
 is-time-requires-2 : tie.Need-is-time-requires-2
 is-time-requires-2 c κs = search needs
 
-records-ok-requires : tie.Need-records-ok-requires
-records-ok-requires c κs = within (c .before .before .before .before .before .before .before .before .before)
-
 refusal-requires-3 : tie.Need-refusal-requires-3
 refusal-requires-3 c κs = search needs
 
@@ -67,11 +67,17 @@ same-length-3 c = search needs
 returns-3 : tie.Need-returns-3
 returns-3 c = search needs
 
-take-out-requires : tie.Need-take-out-requires
-take-out-requires c κs = within (c .before .before .before .before .before .before .before .before .before .before .before .before)
+lone-window-requires : tie.Need-lone-window-requires
+lone-window-requires c κs = search needs
 
-done-requires : tie.Need-done-requires
-done-requires c κs = search needs
+slice-aggregate-survey : tie.Need-slice-aggregate-survey
+slice-aggregate-survey c = search needs
+
+survey-requires : tie.Need-survey-requires
+survey-requires c κs = within (c .before .before .before .before .before .before .before .before .before .before .before .before)
+
+refusal-requires-4 : tie.Need-refusal-requires-4
+refusal-requires-4 c κs = search needs
 
 of-list-requires-4 : tie.Need-of-list-requires-4
 of-list-requires-4 c κs = search needs
@@ -81,6 +87,29 @@ same-length-4 c = search needs
 
 returns-4 : tie.Need-returns-4
 returns-4 c = search needs
+
+slice-aggregate-clear-windows : tie.Need-slice-aggregate-clear-windows
+slice-aggregate-clear-windows c = search needs
+
+clear-windows-requires : tie.Need-clear-windows-requires
+clear-windows-requires c κs =
+    let l = within (c .before .before .before .before .before .before .before .before .before .before .before .before .before .before .before .before .before) in
+    let v = c .before .before .before .before in
+    let s = c .before .before .before .before .before .before .before .before .before .before .before .before .before .before .before .before .before .before .before .before .before .args in
+    let w = v .before .before .before in
+    (l, surveyed (length (s .store .now)) (windowsOf (w .lone-window .result)) (s .events .now) (s .count) l (v .survey .result) (v .survey .ensures) (not-false _ (c .before .before .if4 .left)))
+
+done-requires : tie.Need-done-requires
+done-requires c κs = search needs
+
+of-list-requires-5 : tie.Need-of-list-requires-5
+of-list-requires-5 c κs = search needs
+
+same-length-5 : tie.Need-same-length-5
+same-length-5 c = search needs
+
+returns-5 : tie.Need-returns-5
+returns-5 c = search needs
 
 pub remove-spec : {M : Type 1} → statement M
 remove-spec =
@@ -99,13 +128,20 @@ remove-spec =
     returns-2
     is-time-requires
     is-time-requires-2
-    records-ok-requires
     refusal-requires-3
     of-list-requires-3
     same-length-3
     returns-3
-    take-out-requires
-    done-requires
+    lone-window-requires
+    slice-aggregate-survey
+    survey-requires
+    refusal-requires-4
     of-list-requires-4
     same-length-4
-    returns-4)
+    returns-4
+    slice-aggregate-clear-windows
+    clear-windows-requires
+    done-requires
+    of-list-requires-5
+    same-length-5
+    returns-5)
