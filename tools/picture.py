@@ -23,12 +23,13 @@ COLOURS = [
 # crate, function, what it does for `write_cc_on_time`
 WAY = [
     ('drawing', 'write_cc_on_time', 'the public call: a controller is a target'),
-    ('drawing', 'asked', '1, 2, 3, 4 in this order: list, target, numbers, and what was handed in'),
+    ('drawing', 'asked', '1, 2, 3, 4 in this order: list, target, numbers, and what was handed in but the events'),
     ('state', 'track_ok', 'every range and rule of a track (4)'),
     ('drawing', 'write_of', 'takes the track apart once: time, channel, frequency, option'),
     ('writing', 'write_curve', 'the triples as a list of offers, and their length'),
+    ('eventlist', 'survey', 'every event may be stored (4), and where the first stands that the window takes'),
     ('writing', 'lacks_room', '7 is asked before anything changes'),
-    ('eventlist', 'take_out', "the target's events within the window go, in place"),
+    ('eventlist', 'clear_windows', "the target's events within the window go, and what is kept moves once"),
     ('offers', 'next_triple', 'one piece of the curve after the other'),
     ('shapes', 'curve_value', "a step's value, in f32 as in the Rust"),
     ('offers', 'take_offer', 'an equal value is dropped, a new one is written'),
