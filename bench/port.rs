@@ -1,10 +1,16 @@
 // The port's records as they lie in memory, and its functions by their plain names (crates/benches). A slice goes as its address and its length.
 
+#[allow(dead_code)]
+#[path = "../include/dollavir.rs"]
+mod dollavir;
+
+use dollavir::LIST_LIMIT;
+
 #[derive(Clone, Copy, Debug, PartialEq)]
 #[repr(C)]
 pub struct Numbers {
     pub count: usize,
-    pub items: [i32; 96],
+    pub items: [i32; LIST_LIMIT],
 }
 
 #[derive(Clone, Copy, Debug, PartialEq)]
@@ -184,7 +190,7 @@ pub struct Cycled {
     pub cycles: [Cycle; 16],
 }
 
-pub const NO_CYCLE: Cycle = Cycle { target: 0, length: 0, next: 0, index: 0, values: Numbers { count: 0, items: [0; 96] } };
+pub const NO_CYCLE: Cycle = Cycle { target: 0, length: 0, next: 0, index: 0, values: Numbers { count: 0, items: [0; LIST_LIMIT] } };
 
 #[link(name = "benches", kind = "static")]
 extern "C" {

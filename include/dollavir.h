@@ -4,7 +4,7 @@
  *   0 done
  *   1 the list is not a whole number of records, its count is above it, or the cycle table has not sixteen
  *   2 a target or controller argument is none
- *   3 an argument list has more than 96 numbers
+ *   3 an argument list has more than 192 numbers
  *   4 a number is against its range or rule, or a resulting event time is more than 2^42 from 0
  *   5 a layer above 15
  *   6 no place in a reservation table
@@ -24,9 +24,15 @@
 extern "C" {
 #endif
 
+/* How many numbers a list may have. */
+#define DOLLAVIR_LIST_LIMIT 192
+/* The layout's number: 1 had lists of 96. A host compiled for another must be compiled again; the size of a track
+   is asserted below. */
+#define DOLLAVIR_LAYOUT 2
+
 typedef struct {
     size_t count;
-    int32_t items[96];
+    int32_t items[DOLLAVIR_LIST_LIMIT];
 } dollavir_numbers;
 
 /* What is reserved for the notes to come: nothing, a curve over time, a cycle over time, or a list of which each
@@ -212,31 +218,31 @@ typedef struct {
 
 #if defined(__STDC_VERSION__) && __STDC_VERSION__ >= 201112L
 _Static_assert(sizeof(size_t) == 8, "size_t");
-_Static_assert(sizeof(dollavir_numbers) == 392 && _Alignof(dollavir_numbers) == 8, "dollavir_numbers");
+_Static_assert(sizeof(dollavir_numbers) == 776 && _Alignof(dollavir_numbers) == 8, "dollavir_numbers");
 _Static_assert(offsetof(dollavir_numbers, count) == 0, "dollavir_numbers.count");
 _Static_assert(offsetof(dollavir_numbers, items) == 8, "dollavir_numbers.items");
-_Static_assert(sizeof(dollavir_reserve) == 424 && _Alignof(dollavir_reserve) == 8, "dollavir_reserve");
+_Static_assert(sizeof(dollavir_reserve) == 808 && _Alignof(dollavir_reserve) == 8, "dollavir_reserve");
 _Static_assert(offsetof(dollavir_reserve, kind) == 0, "dollavir_reserve.kind");
 _Static_assert(offsetof(dollavir_reserve, cycling) == 4, "dollavir_reserve.cycling");
 _Static_assert(offsetof(dollavir_reserve, start) == 8, "dollavir_reserve.start");
 _Static_assert(offsetof(dollavir_reserve, length) == 16, "dollavir_reserve.length");
 _Static_assert(offsetof(dollavir_reserve, index) == 24, "dollavir_reserve.index");
 _Static_assert(offsetof(dollavir_reserve, values) == 32, "dollavir_reserve.values");
-_Static_assert(sizeof(dollavir_note_param) == 456 && _Alignof(dollavir_note_param) == 8, "dollavir_note_param");
+_Static_assert(sizeof(dollavir_note_param) == 840 && _Alignof(dollavir_note_param) == 8, "dollavir_note_param");
 _Static_assert(offsetof(dollavir_note_param, reserve) == 0, "dollavir_note_param.reserve");
-_Static_assert(offsetof(dollavir_note_param, random) == 424, "dollavir_note_param.random");
-_Static_assert(offsetof(dollavir_note_param, ranged) == 428, "dollavir_note_param.ranged");
-_Static_assert(offsetof(dollavir_note_param, low) == 432, "dollavir_note_param.low");
-_Static_assert(offsetof(dollavir_note_param, high) == 436, "dollavir_note_param.high");
-_Static_assert(offsetof(dollavir_note_param, delay) == 440, "dollavir_note_param.delay");
-_Static_assert(offsetof(dollavir_note_param, maxed) == 444, "dollavir_note_param.maxed");
-_Static_assert(offsetof(dollavir_note_param, max) == 448, "dollavir_note_param.max");
-_Static_assert(offsetof(dollavir_note_param, repeat) == 452, "dollavir_note_param.repeat");
-_Static_assert(sizeof(dollavir_layer) == 432 && _Alignof(dollavir_layer) == 8, "dollavir_layer");
+_Static_assert(offsetof(dollavir_note_param, random) == 808, "dollavir_note_param.random");
+_Static_assert(offsetof(dollavir_note_param, ranged) == 812, "dollavir_note_param.ranged");
+_Static_assert(offsetof(dollavir_note_param, low) == 816, "dollavir_note_param.low");
+_Static_assert(offsetof(dollavir_note_param, high) == 820, "dollavir_note_param.high");
+_Static_assert(offsetof(dollavir_note_param, delay) == 824, "dollavir_note_param.delay");
+_Static_assert(offsetof(dollavir_note_param, maxed) == 828, "dollavir_note_param.maxed");
+_Static_assert(offsetof(dollavir_note_param, max) == 832, "dollavir_note_param.max");
+_Static_assert(offsetof(dollavir_note_param, repeat) == 836, "dollavir_note_param.repeat");
+_Static_assert(sizeof(dollavir_layer) == 816 && _Alignof(dollavir_layer) == 8, "dollavir_layer");
 _Static_assert(offsetof(dollavir_layer, value) == 0, "dollavir_layer.value");
 _Static_assert(offsetof(dollavir_layer, random) == 4, "dollavir_layer.random");
 _Static_assert(offsetof(dollavir_layer, reserve) == 8, "dollavir_layer.reserve");
-_Static_assert(sizeof(dollavir_layers) == 6920 && _Alignof(dollavir_layers) == 8, "dollavir_layers");
+_Static_assert(sizeof(dollavir_layers) == 13064 && _Alignof(dollavir_layers) == 8, "dollavir_layers");
 _Static_assert(offsetof(dollavir_layers, count) == 0, "dollavir_layers.count");
 _Static_assert(offsetof(dollavir_layers, items) == 8, "dollavir_layers.items");
 _Static_assert(sizeof(dollavir_write_option) == 24 && _Alignof(dollavir_write_option) == 4, "dollavir_write_option");
@@ -246,19 +252,19 @@ _Static_assert(offsetof(dollavir_write_option, ranged) == 8, "dollavir_write_opt
 _Static_assert(offsetof(dollavir_write_option, low) == 12, "dollavir_write_option.low");
 _Static_assert(offsetof(dollavir_write_option, high) == 16, "dollavir_write_option.high");
 _Static_assert(offsetof(dollavir_write_option, repeat) == 20, "dollavir_write_option.repeat");
-_Static_assert(sizeof(dollavir_on_note_values) == 416 && _Alignof(dollavir_on_note_values) == 8, "dollavir_on_note_values");
+_Static_assert(sizeof(dollavir_on_note_values) == 800 && _Alignof(dollavir_on_note_values) == 8, "dollavir_on_note_values");
 _Static_assert(offsetof(dollavir_on_note_values, target) == 0, "dollavir_on_note_values.target");
 _Static_assert(offsetof(dollavir_on_note_values, index) == 8, "dollavir_on_note_values.index");
 _Static_assert(offsetof(dollavir_on_note_values, cycling) == 16, "dollavir_on_note_values.cycling");
 _Static_assert(offsetof(dollavir_on_note_values, values) == 24, "dollavir_on_note_values.values");
-_Static_assert(sizeof(dollavir_note_table) == 6664 && _Alignof(dollavir_note_table) == 8, "dollavir_note_table");
+_Static_assert(sizeof(dollavir_note_table) == 12808 && _Alignof(dollavir_note_table) == 8, "dollavir_note_table");
 _Static_assert(offsetof(dollavir_note_table, count) == 0, "dollavir_note_table.count");
 _Static_assert(offsetof(dollavir_note_table, items) == 8, "dollavir_note_table.items");
-_Static_assert(sizeof(dollavir_on_note_wave) == 400 && _Alignof(dollavir_on_note_wave) == 8, "dollavir_on_note_wave");
+_Static_assert(sizeof(dollavir_on_note_wave) == 784 && _Alignof(dollavir_on_note_wave) == 8, "dollavir_on_note_wave");
 _Static_assert(offsetof(dollavir_on_note_wave, target) == 0, "dollavir_on_note_wave.target");
 _Static_assert(offsetof(dollavir_on_note_wave, mode) == 4, "dollavir_on_note_wave.mode");
 _Static_assert(offsetof(dollavir_on_note_wave, values) == 8, "dollavir_on_note_wave.values");
-_Static_assert(sizeof(dollavir_wave_table) == 6408 && _Alignof(dollavir_wave_table) == 8, "dollavir_wave_table");
+_Static_assert(sizeof(dollavir_wave_table) == 12552 && _Alignof(dollavir_wave_table) == 8, "dollavir_wave_table");
 _Static_assert(offsetof(dollavir_wave_table, count) == 0, "dollavir_wave_table.count");
 _Static_assert(offsetof(dollavir_wave_table, items) == 8, "dollavir_wave_table.items");
 _Static_assert(sizeof(dollavir_on_note_sine) == 24 && _Alignof(dollavir_on_note_sine) == 4, "dollavir_on_note_sine");
@@ -271,7 +277,7 @@ _Static_assert(offsetof(dollavir_on_note_sine, times) == 20, "dollavir_on_note_s
 _Static_assert(sizeof(dollavir_sine_table) == 392 && _Alignof(dollavir_sine_table) == 8, "dollavir_sine_table");
 _Static_assert(offsetof(dollavir_sine_table, count) == 0, "dollavir_sine_table.count");
 _Static_assert(offsetof(dollavir_sine_table, items) == 8, "dollavir_sine_table.items");
-_Static_assert(sizeof(dollavir_track) == 25816 && _Alignof(dollavir_track) == 8, "dollavir_track");
+_Static_assert(sizeof(dollavir_track) == 46168 && _Alignof(dollavir_track) == 8, "dollavir_track");
 _Static_assert(offsetof(dollavir_track, timebase) == 0, "dollavir_track.timebase");
 _Static_assert(offsetof(dollavir_track, timepos) == 8, "dollavir_track.timepos");
 _Static_assert(offsetof(dollavir_track, channel) == 16, "dollavir_track.channel");
@@ -283,17 +289,17 @@ _Static_assert(offsetof(dollavir_track, octave) == 36, "dollavir_track.octave");
 _Static_assert(offsetof(dollavir_track, qlen) == 40, "dollavir_track.qlen");
 _Static_assert(offsetof(dollavir_track, step) == 44, "dollavir_track.step");
 _Static_assert(offsetof(dollavir_track, v) == 48, "dollavir_track.v");
-_Static_assert(offsetof(dollavir_track, q) == 504, "dollavir_track.q");
-_Static_assert(offsetof(dollavir_track, t) == 960, "dollavir_track.t");
-_Static_assert(offsetof(dollavir_track, o) == 1416, "dollavir_track.o");
-_Static_assert(offsetof(dollavir_track, l) == 1872, "dollavir_track.l");
-_Static_assert(offsetof(dollavir_track, layers) == 2328, "dollavir_track.layers");
-_Static_assert(offsetof(dollavir_track, options) == 9248, "dollavir_track.options");
-_Static_assert(offsetof(dollavir_track, notes) == 12344, "dollavir_track.notes");
-_Static_assert(offsetof(dollavir_track, waves) == 19008, "dollavir_track.waves");
-_Static_assert(offsetof(dollavir_track, sines) == 25416, "dollavir_track.sines");
-_Static_assert(offsetof(dollavir_track, cycles) == 25808, "dollavir_track.cycles");
-_Static_assert(sizeof(dollavir_track_answer) == 25824 && _Alignof(dollavir_track_answer) == 8, "dollavir_track_answer");
+_Static_assert(offsetof(dollavir_track, q) == 888, "dollavir_track.q");
+_Static_assert(offsetof(dollavir_track, t) == 1728, "dollavir_track.t");
+_Static_assert(offsetof(dollavir_track, o) == 2568, "dollavir_track.o");
+_Static_assert(offsetof(dollavir_track, l) == 3408, "dollavir_track.l");
+_Static_assert(offsetof(dollavir_track, layers) == 4248, "dollavir_track.layers");
+_Static_assert(offsetof(dollavir_track, options) == 17312, "dollavir_track.options");
+_Static_assert(offsetof(dollavir_track, notes) == 20408, "dollavir_track.notes");
+_Static_assert(offsetof(dollavir_track, waves) == 33216, "dollavir_track.waves");
+_Static_assert(offsetof(dollavir_track, sines) == 45768, "dollavir_track.sines");
+_Static_assert(offsetof(dollavir_track, cycles) == 46160, "dollavir_track.cycles");
+_Static_assert(sizeof(dollavir_track_answer) == 46176 && _Alignof(dollavir_track_answer) == 8, "dollavir_track_answer");
 _Static_assert(offsetof(dollavir_track_answer, code) == 0, "dollavir_track_answer.code");
 _Static_assert(offsetof(dollavir_track_answer, track) == 8, "dollavir_track_answer.track");
 _Static_assert(sizeof(dollavir_budget) == 16 && _Alignof(dollavir_budget) == 4, "dollavir_budget");
@@ -304,7 +310,7 @@ _Static_assert(offsetof(dollavir_budget, over) == 12, "dollavir_budget.over");
 _Static_assert(sizeof(dollavir_budget_answer) == 20 && _Alignof(dollavir_budget_answer) == 4, "dollavir_budget_answer");
 _Static_assert(offsetof(dollavir_budget_answer, code) == 0, "dollavir_budget_answer.code");
 _Static_assert(offsetof(dollavir_budget_answer, budget) == 4, "dollavir_budget_answer.budget");
-_Static_assert(sizeof(dollavir_cycle) == 416 && _Alignof(dollavir_cycle) == 8, "dollavir_cycle");
+_Static_assert(sizeof(dollavir_cycle) == 800 && _Alignof(dollavir_cycle) == 8, "dollavir_cycle");
 _Static_assert(offsetof(dollavir_cycle, target) == 0, "dollavir_cycle.target");
 _Static_assert(offsetof(dollavir_cycle, length) == 4, "dollavir_cycle.length");
 _Static_assert(offsetof(dollavir_cycle, next) == 8, "dollavir_cycle.next");
@@ -313,11 +319,11 @@ _Static_assert(offsetof(dollavir_cycle, values) == 24, "dollavir_cycle.values");
 _Static_assert(sizeof(dollavir_sine_answer) == 28 && _Alignof(dollavir_sine_answer) == 4, "dollavir_sine_answer");
 _Static_assert(offsetof(dollavir_sine_answer, code) == 0, "dollavir_sine_answer.code");
 _Static_assert(offsetof(dollavir_sine_answer, sine) == 4, "dollavir_sine_answer.sine");
-_Static_assert(sizeof(dollavir_on_cycle_time) == 408 && _Alignof(dollavir_on_cycle_time) == 8, "dollavir_on_cycle_time");
+_Static_assert(sizeof(dollavir_on_cycle_time) == 792 && _Alignof(dollavir_on_cycle_time) == 8, "dollavir_on_cycle_time");
 _Static_assert(offsetof(dollavir_on_cycle_time, start) == 0, "dollavir_on_cycle_time.start");
 _Static_assert(offsetof(dollavir_on_cycle_time, length) == 8, "dollavir_on_cycle_time.length");
 _Static_assert(offsetof(dollavir_on_cycle_time, values) == 16, "dollavir_on_cycle_time.values");
-_Static_assert(sizeof(dollavir_cycle_time_answer) == 416 && _Alignof(dollavir_cycle_time_answer) == 8, "dollavir_cycle_time_answer");
+_Static_assert(sizeof(dollavir_cycle_time_answer) == 800 && _Alignof(dollavir_cycle_time_answer) == 8, "dollavir_cycle_time_answer");
 _Static_assert(offsetof(dollavir_cycle_time_answer, code) == 0, "dollavir_cycle_time_answer.code");
 _Static_assert(offsetof(dollavir_cycle_time_answer, cycle) == 8, "dollavir_cycle_time_answer.cycle");
 _Static_assert(sizeof(dollavir_event) == 64 && _Alignof(dollavir_event) == 8, "dollavir_event");

@@ -3,7 +3,7 @@
 //   0 done
 //   1 the list is not a whole number of records, its count is above it, or the cycle table has not sixteen
 //   2 a target or controller argument is none
-//   3 an argument list has more than 96 numbers
+//   3 an argument list has more than 192 numbers
 //   4 a number is against its range or rule, or a resulting event time is more than 2^42 from 0
 //   5 a layer above 15
 //   6 no place in a reservation table
@@ -13,11 +13,17 @@
 // record: kind, time, channel, v1, v2, v3, offset, length. What a function does not read it does not test:
 // dollavir_write_cc_on_note and dollavir_write_cc_on_cycle only append, and ask no event of the list.
 
+// How many numbers a list may have.
+pub const LIST_LIMIT: usize = 192;
+// The layout's number: 1 had lists of 96. A host compiled for another must be compiled again; the size of a track
+// is asserted below.
+pub const LAYOUT: u32 = 2;
+
 #[repr(C)]
 #[derive(Clone, Copy, Debug, PartialEq, Eq)]
 pub struct Numbers {
     pub count: usize,
-    pub items: [i32; 96],
+    pub items: [i32; LIST_LIMIT],
 }
 
 // What is reserved for the notes to come: nothing, a curve over time, a cycle over time, or a list of which each
@@ -244,31 +250,31 @@ pub struct Made {
 }
 
 const _: () = assert!(core::mem::size_of::<usize>() == 8);
-const _: () = assert!(core::mem::size_of::<Numbers>() == 392 && core::mem::align_of::<Numbers>() == 8);
+const _: () = assert!(core::mem::size_of::<Numbers>() == 776 && core::mem::align_of::<Numbers>() == 8);
 const _: () = assert!(core::mem::offset_of!(Numbers, count) == 0);
 const _: () = assert!(core::mem::offset_of!(Numbers, items) == 8);
-const _: () = assert!(core::mem::size_of::<Reserve>() == 424 && core::mem::align_of::<Reserve>() == 8);
+const _: () = assert!(core::mem::size_of::<Reserve>() == 808 && core::mem::align_of::<Reserve>() == 8);
 const _: () = assert!(core::mem::offset_of!(Reserve, kind) == 0);
 const _: () = assert!(core::mem::offset_of!(Reserve, cycling) == 4);
 const _: () = assert!(core::mem::offset_of!(Reserve, start) == 8);
 const _: () = assert!(core::mem::offset_of!(Reserve, length) == 16);
 const _: () = assert!(core::mem::offset_of!(Reserve, index) == 24);
 const _: () = assert!(core::mem::offset_of!(Reserve, values) == 32);
-const _: () = assert!(core::mem::size_of::<NoteParam>() == 456 && core::mem::align_of::<NoteParam>() == 8);
+const _: () = assert!(core::mem::size_of::<NoteParam>() == 840 && core::mem::align_of::<NoteParam>() == 8);
 const _: () = assert!(core::mem::offset_of!(NoteParam, reserve) == 0);
-const _: () = assert!(core::mem::offset_of!(NoteParam, random) == 424);
-const _: () = assert!(core::mem::offset_of!(NoteParam, ranged) == 428);
-const _: () = assert!(core::mem::offset_of!(NoteParam, low) == 432);
-const _: () = assert!(core::mem::offset_of!(NoteParam, high) == 436);
-const _: () = assert!(core::mem::offset_of!(NoteParam, delay) == 440);
-const _: () = assert!(core::mem::offset_of!(NoteParam, maxed) == 444);
-const _: () = assert!(core::mem::offset_of!(NoteParam, max) == 448);
-const _: () = assert!(core::mem::offset_of!(NoteParam, repeat) == 452);
-const _: () = assert!(core::mem::size_of::<Layer>() == 432 && core::mem::align_of::<Layer>() == 8);
+const _: () = assert!(core::mem::offset_of!(NoteParam, random) == 808);
+const _: () = assert!(core::mem::offset_of!(NoteParam, ranged) == 812);
+const _: () = assert!(core::mem::offset_of!(NoteParam, low) == 816);
+const _: () = assert!(core::mem::offset_of!(NoteParam, high) == 820);
+const _: () = assert!(core::mem::offset_of!(NoteParam, delay) == 824);
+const _: () = assert!(core::mem::offset_of!(NoteParam, maxed) == 828);
+const _: () = assert!(core::mem::offset_of!(NoteParam, max) == 832);
+const _: () = assert!(core::mem::offset_of!(NoteParam, repeat) == 836);
+const _: () = assert!(core::mem::size_of::<Layer>() == 816 && core::mem::align_of::<Layer>() == 8);
 const _: () = assert!(core::mem::offset_of!(Layer, value) == 0);
 const _: () = assert!(core::mem::offset_of!(Layer, random) == 4);
 const _: () = assert!(core::mem::offset_of!(Layer, reserve) == 8);
-const _: () = assert!(core::mem::size_of::<Layers>() == 6920 && core::mem::align_of::<Layers>() == 8);
+const _: () = assert!(core::mem::size_of::<Layers>() == 13064 && core::mem::align_of::<Layers>() == 8);
 const _: () = assert!(core::mem::offset_of!(Layers, count) == 0);
 const _: () = assert!(core::mem::offset_of!(Layers, items) == 8);
 const _: () = assert!(core::mem::size_of::<WriteOption>() == 24 && core::mem::align_of::<WriteOption>() == 4);
@@ -278,19 +284,19 @@ const _: () = assert!(core::mem::offset_of!(WriteOption, ranged) == 8);
 const _: () = assert!(core::mem::offset_of!(WriteOption, low) == 12);
 const _: () = assert!(core::mem::offset_of!(WriteOption, high) == 16);
 const _: () = assert!(core::mem::offset_of!(WriteOption, repeat) == 20);
-const _: () = assert!(core::mem::size_of::<OnNoteValues>() == 416 && core::mem::align_of::<OnNoteValues>() == 8);
+const _: () = assert!(core::mem::size_of::<OnNoteValues>() == 800 && core::mem::align_of::<OnNoteValues>() == 8);
 const _: () = assert!(core::mem::offset_of!(OnNoteValues, target) == 0);
 const _: () = assert!(core::mem::offset_of!(OnNoteValues, index) == 8);
 const _: () = assert!(core::mem::offset_of!(OnNoteValues, cycling) == 16);
 const _: () = assert!(core::mem::offset_of!(OnNoteValues, values) == 24);
-const _: () = assert!(core::mem::size_of::<NoteTable>() == 6664 && core::mem::align_of::<NoteTable>() == 8);
+const _: () = assert!(core::mem::size_of::<NoteTable>() == 12808 && core::mem::align_of::<NoteTable>() == 8);
 const _: () = assert!(core::mem::offset_of!(NoteTable, count) == 0);
 const _: () = assert!(core::mem::offset_of!(NoteTable, items) == 8);
-const _: () = assert!(core::mem::size_of::<OnNoteWave>() == 400 && core::mem::align_of::<OnNoteWave>() == 8);
+const _: () = assert!(core::mem::size_of::<OnNoteWave>() == 784 && core::mem::align_of::<OnNoteWave>() == 8);
 const _: () = assert!(core::mem::offset_of!(OnNoteWave, target) == 0);
 const _: () = assert!(core::mem::offset_of!(OnNoteWave, mode) == 4);
 const _: () = assert!(core::mem::offset_of!(OnNoteWave, values) == 8);
-const _: () = assert!(core::mem::size_of::<WaveTable>() == 6408 && core::mem::align_of::<WaveTable>() == 8);
+const _: () = assert!(core::mem::size_of::<WaveTable>() == 12552 && core::mem::align_of::<WaveTable>() == 8);
 const _: () = assert!(core::mem::offset_of!(WaveTable, count) == 0);
 const _: () = assert!(core::mem::offset_of!(WaveTable, items) == 8);
 const _: () = assert!(core::mem::size_of::<OnNoteSine>() == 24 && core::mem::align_of::<OnNoteSine>() == 4);
@@ -303,7 +309,7 @@ const _: () = assert!(core::mem::offset_of!(OnNoteSine, times) == 20);
 const _: () = assert!(core::mem::size_of::<SineTable>() == 392 && core::mem::align_of::<SineTable>() == 8);
 const _: () = assert!(core::mem::offset_of!(SineTable, count) == 0);
 const _: () = assert!(core::mem::offset_of!(SineTable, items) == 8);
-const _: () = assert!(core::mem::size_of::<Track>() == 25816 && core::mem::align_of::<Track>() == 8);
+const _: () = assert!(core::mem::size_of::<Track>() == 46168 && core::mem::align_of::<Track>() == 8);
 const _: () = assert!(core::mem::offset_of!(Track, timebase) == 0);
 const _: () = assert!(core::mem::offset_of!(Track, timepos) == 8);
 const _: () = assert!(core::mem::offset_of!(Track, channel) == 16);
@@ -315,17 +321,17 @@ const _: () = assert!(core::mem::offset_of!(Track, octave) == 36);
 const _: () = assert!(core::mem::offset_of!(Track, qlen) == 40);
 const _: () = assert!(core::mem::offset_of!(Track, step) == 44);
 const _: () = assert!(core::mem::offset_of!(Track, v) == 48);
-const _: () = assert!(core::mem::offset_of!(Track, q) == 504);
-const _: () = assert!(core::mem::offset_of!(Track, t) == 960);
-const _: () = assert!(core::mem::offset_of!(Track, o) == 1416);
-const _: () = assert!(core::mem::offset_of!(Track, l) == 1872);
-const _: () = assert!(core::mem::offset_of!(Track, layers) == 2328);
-const _: () = assert!(core::mem::offset_of!(Track, options) == 9248);
-const _: () = assert!(core::mem::offset_of!(Track, notes) == 12344);
-const _: () = assert!(core::mem::offset_of!(Track, waves) == 19008);
-const _: () = assert!(core::mem::offset_of!(Track, sines) == 25416);
-const _: () = assert!(core::mem::offset_of!(Track, cycles) == 25808);
-const _: () = assert!(core::mem::size_of::<TrackAnswer>() == 25824 && core::mem::align_of::<TrackAnswer>() == 8);
+const _: () = assert!(core::mem::offset_of!(Track, q) == 888);
+const _: () = assert!(core::mem::offset_of!(Track, t) == 1728);
+const _: () = assert!(core::mem::offset_of!(Track, o) == 2568);
+const _: () = assert!(core::mem::offset_of!(Track, l) == 3408);
+const _: () = assert!(core::mem::offset_of!(Track, layers) == 4248);
+const _: () = assert!(core::mem::offset_of!(Track, options) == 17312);
+const _: () = assert!(core::mem::offset_of!(Track, notes) == 20408);
+const _: () = assert!(core::mem::offset_of!(Track, waves) == 33216);
+const _: () = assert!(core::mem::offset_of!(Track, sines) == 45768);
+const _: () = assert!(core::mem::offset_of!(Track, cycles) == 46160);
+const _: () = assert!(core::mem::size_of::<TrackAnswer>() == 46176 && core::mem::align_of::<TrackAnswer>() == 8);
 const _: () = assert!(core::mem::offset_of!(TrackAnswer, code) == 0);
 const _: () = assert!(core::mem::offset_of!(TrackAnswer, track) == 8);
 const _: () = assert!(core::mem::size_of::<Budget>() == 16 && core::mem::align_of::<Budget>() == 4);
@@ -336,7 +342,7 @@ const _: () = assert!(core::mem::offset_of!(Budget, over) == 12);
 const _: () = assert!(core::mem::size_of::<BudgetAnswer>() == 20 && core::mem::align_of::<BudgetAnswer>() == 4);
 const _: () = assert!(core::mem::offset_of!(BudgetAnswer, code) == 0);
 const _: () = assert!(core::mem::offset_of!(BudgetAnswer, budget) == 4);
-const _: () = assert!(core::mem::size_of::<Cycle>() == 416 && core::mem::align_of::<Cycle>() == 8);
+const _: () = assert!(core::mem::size_of::<Cycle>() == 800 && core::mem::align_of::<Cycle>() == 8);
 const _: () = assert!(core::mem::offset_of!(Cycle, target) == 0);
 const _: () = assert!(core::mem::offset_of!(Cycle, length) == 4);
 const _: () = assert!(core::mem::offset_of!(Cycle, next) == 8);
@@ -345,11 +351,11 @@ const _: () = assert!(core::mem::offset_of!(Cycle, values) == 24);
 const _: () = assert!(core::mem::size_of::<SineAnswer>() == 28 && core::mem::align_of::<SineAnswer>() == 4);
 const _: () = assert!(core::mem::offset_of!(SineAnswer, code) == 0);
 const _: () = assert!(core::mem::offset_of!(SineAnswer, sine) == 4);
-const _: () = assert!(core::mem::size_of::<OnCycleTime>() == 408 && core::mem::align_of::<OnCycleTime>() == 8);
+const _: () = assert!(core::mem::size_of::<OnCycleTime>() == 792 && core::mem::align_of::<OnCycleTime>() == 8);
 const _: () = assert!(core::mem::offset_of!(OnCycleTime, start) == 0);
 const _: () = assert!(core::mem::offset_of!(OnCycleTime, length) == 8);
 const _: () = assert!(core::mem::offset_of!(OnCycleTime, values) == 16);
-const _: () = assert!(core::mem::size_of::<CycleTimeAnswer>() == 416 && core::mem::align_of::<CycleTimeAnswer>() == 8);
+const _: () = assert!(core::mem::size_of::<CycleTimeAnswer>() == 800 && core::mem::align_of::<CycleTimeAnswer>() == 8);
 const _: () = assert!(core::mem::offset_of!(CycleTimeAnswer, code) == 0);
 const _: () = assert!(core::mem::offset_of!(CycleTimeAnswer, cycle) == 8);
 const _: () = assert!(core::mem::size_of::<Event>() == 64 && core::mem::align_of::<Event>() == 8);

@@ -1,10 +1,11 @@
-// Document 01's cases, "Both sides of a line", asked of the original: each is a short script in text, and lines that its last call must print in full mode. And the sines,
+// Document 01's cases, "Both sides of a line", with request c)'s limit for lists, asked of the original: each is a short script in text, and lines that its last call must print in full mode. And the sines,
 // whose values document 01 takes from a table of its own: how far the original's stand from it.
 
 use crate::calls;
 use crate::desk::{records_of, Desk};
 use crate::dice::Dice;
 use crate::original::*;
+use crate::rules::{FORMER_LIMIT, LIST_LIMIT};
 use crate::script::from_text;
 use crate::show;
 use crate::sine::{write_sine, Quarter};
@@ -71,8 +72,10 @@ fn cases() -> Vec<Case> {
         ),
         case("CC7=90 at 0, CC7=100 at 10, cut at 10: list order 100, 90", &format!("{two}; 309 10"), &["E 2 2 0 0 7 100 0 0 2 0 0 7 90 0 0"]),
         case("Full cut: 90, 100", &format!("{two}; 310 10"), &["E 2 2 0 0 7 90 0 0 2 0 0 7 100 0 0"]),
-        case("96 numbers accepted", &format!("607 7 {}", ones(96)), &["607 0"]),
-        case("97 give 3", &format!("607 7 {}", ones(97)), &["607 3"]),
+        case("192 numbers accepted", &format!("607 7 {}", ones(LIST_LIMIT)), &["607 0"]),
+        case("193 give 3", &format!("607 7 {}", ones(LIST_LIMIT + 1)), &["607 3"]),
+        case("96 numbers accepted as before", &format!("607 7 {}", ones(FORMER_LIMIT)), &["607 0"]),
+        case("97, which gave 3, accepted too", &format!("607 7 {}", ones(FORMER_LIMIT + 1)), &["607 0"]),
         case("Sixteen targets kept, a seventeenth gives 6", &format!("{sixteen}703 16 16 1 5"), &["703 6"]),
         case("A kept one set again gives 0", &format!("{sixteen}703 3 16 1 5"), &["703 0"]),
         case(

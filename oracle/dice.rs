@@ -1,6 +1,7 @@
 // Random numbers that a seed determines, and the numbers that scripts hand in: mostly small ones that work together, often the limits of document 01, and now
 // and then one past a limit.
 
+use crate::rules::{FORMER_LIMIT, LIST_LIMIT};
 use crate::table::Arg;
 
 pub struct Dice(u64);
@@ -122,12 +123,14 @@ impl Dice {
         Some(bad)
     }
 
-    /// A list for the argument, in range; `backwards` allows lengths below 0.
+    /// A list for the argument, in range, mostly a short one; one in twelve is longer than the former limit. `backwards` allows lengths below 0.
     pub fn list(&mut self, arg: Arg, backwards: bool) -> Vec<i64> {
-        let count = match self.pick(0, 19) {
-            0 => 96,
+        let (most, former) = (LIST_LIMIT as i64, FORMER_LIMIT as i64);
+        let count = match self.pick(0, 23) {
+            0 => most,
             1 => 0,
-            2 => self.pick(0, 96),
+            2 => self.pick(0, most),
+            3 => self.pick(former, former + 1),
             _ => self.pick(1, 9),
         };
         let wide = self.one_in(6);
@@ -149,7 +152,7 @@ impl Dice {
     /// Spoils a list: one number past its range, or too many numbers.
     pub fn spoil(&mut self, arg: Arg, mut list: Vec<i64>) -> Vec<i64> {
         if list.is_empty() || self.one_in(3) {
-            let count = self.of(&[97, 97, 98, 192, 193, 400]);
+            let count = self.of(&[LIST_LIMIT + 1, LIST_LIMIT + 1, LIST_LIMIT + 2, 2 * LIST_LIMIT, 2 * LIST_LIMIT + 1, 4 * LIST_LIMIT]);
             list.resize(count, 1);
             return list;
         }

@@ -4,7 +4,7 @@
 
 use crate::desk::key_of;
 use crate::make::{Maker, CYCLE_WRITES, MOST_RECORDS};
-use crate::rules::PLACES;
+use crate::rules::{LIST_LIMIT, PLACES};
 use crate::script::Step;
 use crate::table::Arg;
 
@@ -82,6 +82,9 @@ const DUE: &[(&str, &[i64])] = &[
     ("sixteen records, 626 each: the first call ends within the last", &[626; PLACES]),
 ];
 
+/// The values of a full list.
+const LONGEST: i64 = LIST_LIMIT as i64;
+
 /// What the one record is like that has one write more than a call makes.
 const LOOKS: &[(&str, Look)] = &[
     ("no option", Look::NoOption),
@@ -96,9 +99,9 @@ const LOOKS: &[(&str, Look)] = &[
     ("three values, from the first on", Look::Values(3, 0)),
     ("three values, from the middle one on", Look::Values(3, 1)),
     ("three values, from the last on", Look::Values(3, 2)),
-    ("ninety-six values, from the first on", Look::Values(96, 0)),
-    ("ninety-six values, at the first again after 10,000 writes", Look::Values(96, 80)),
-    ("ninety-six values, from the last on", Look::Values(96, 95)),
+    ("as many values as a list has, from the first on", Look::Values(LONGEST, 0)),
+    ("as many values as a list has, at the first again after 10,000 writes", Look::Values(LONGEST, LONGEST - CYCLE_WRITES % LONGEST)),
+    ("as many values as a list has, from the last on", Look::Values(LONGEST, LONGEST - 1)),
     ("length 1", Look::Length(1)),
     ("length 2", Look::Length(2)),
     ("length 2^20", Look::Length(1 << 20)),

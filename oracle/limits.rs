@@ -1,10 +1,10 @@
-// Every call of some families at its limits: lent what is spoilt, handed each argument past its range, as it should be, and with no room; and tables of sixteen. Random scripts meet all of this too,
+// Every call of some families at its limits: lent what is spoilt, handed each argument past its range, as it should be, and with no room; full lists, read at their end; and tables of sixteen. Random scripts meet all of this too,
 // but some of it seldom: the stored samples begin with these calls.
 
 use crate::make::{is_inner, Maker};
 use crate::rules::{LIST_LIMIT, PLACES};
 use crate::script::Step;
-use crate::table::{Call, CALLS};
+use crate::table::{Arg, Call, CALLS};
 
 /// A number of the desk that is spoilt, for calls that are lent one of `letters`: the call of family 9, its arguments, and those that mend it.
 struct Spoilt {
@@ -27,6 +27,33 @@ const SPOILT: &[Spoilt] = &[
 /// The calls that enter each of the four tables.
 const SETTERS: [&[i64]; 4] = [&[703, 714], &[704, 712, 715], &[705], &[706]];
 
+/// A full list, and calls that read its last numbers: the call that sets it, its arguments before the list, and what is called before it.
+struct Full {
+    op: i64,
+    front: &'static [i64],
+    before: &'static [i64],
+    reads: &'static [&'static [i64]],
+}
+
+/// The place of a full list's last number, and how many triples it has.
+const LAST: i64 = LIST_LIMIT as i64 - 1;
+const TRIPLES: i64 = LIST_LIMIT as i64 / 3;
+
+const FULL: &[Full] = &[
+    Full { op: 404, front: &[0, 0], before: &[], reads: &[&[407, 0, TRIPLES - 1, 5], &[407, 0, TRIPLES, 5]] },
+    Full { op: 405, front: &[0, 0], before: &[], reads: &[&[407, 0, LAST - 2, 5], &[407, 0, LAST, 5]] },
+    Full { op: 406, front: &[0], before: &[417, 0, 1], reads: &[&[908, 0, 2, LAST - 1], &[408, 0, 5], &[408, 0, 5], &[408, 0, 5]] },
+    Full { op: 418, front: &[0, 1, LAST - 1], before: &[], reads: &[] },
+    Full { op: 513, front: &[0], before: &[], reads: &[&[907, 1, TRIPLES - 1], &[516, 100], &[907, 1, TRIPLES], &[516, 100]] },
+    Full { op: 514, front: &[0], before: &[], reads: &[&[907, 1, LAST - 2], &[516, 100], &[907, 1, LAST], &[516, 100]] },
+    Full { op: 519, front: &[0], before: &[], reads: &[&[908, 0, 2, LAST - 1], &[502, 5], &[502, 5], &[502, 5]] },
+    Full { op: 703, front: &[7, 16], before: &[702, 7, 1], reads: &[&[911, 0, 1, LAST - 1], &[707, 0], &[707, 0], &[707, 0]] },
+    Full { op: 703, front: &[7, 16], before: &[], reads: &[&[911, 0, 1, LAST - 1], &[707, 0], &[707, 0], &[707, 0]] },
+    Full { op: 704, front: &[7, 0, 16], before: &[], reads: &[&[907, 1, TRIPLES], &[708, 0]] },
+    Full { op: 704, front: &[7, 2, 16], before: &[], reads: &[&[907, 1, TRIPLES + 8], &[708, 0]] },
+    Full { op: 706, front: &[7, 1, 16], before: &[], reads: &[&[914, 0, 3, LAST - 2], &[709, 3, 16]] },
+];
+
 /// The desk is a script's first one again after it.
 pub fn script(seed: u64, families: &[i64]) -> Vec<Step> {
     let mut maker = Maker::new(seed, families);
@@ -44,11 +71,17 @@ pub fn script(seed: u64, families: &[i64]) -> Vec<Step> {
             maker.sound(call);
         }
     }
+    maker.full_lists(families);
     if families.contains(&7) {
         maker.full_tables();
     }
     maker.emit(902, &[96, 0, 64]);
     maker.steps
+}
+
+/// So many numbers, in triples that rise with every second one: as curves, full lists then write less than a desk has room for.
+fn rising(count: usize) -> Vec<i64> {
+    (0..count as i64).map(|at| if at % 3 == 2 { 1 } else { at / 6 + 1 }).collect()
 }
 
 impl Maker {
@@ -82,19 +115,41 @@ impl Maker {
         }
     }
 
-    /// Each argument past its range, one after the other; a list has one number too many, and then one that is past its range.
+    /// Each argument past its range, one after the other.
     fn past_ranges(&mut self, call: &Call) {
         for (at, arg) in call.args.iter().enumerate() {
-            if !arg.is_list() {
+            if arg.is_list() {
+                self.list_limits(call, at);
+            } else {
                 let args = self.arguments(call, Some(at));
                 self.emit(call.op, &args.unwrap());
-                continue;
             }
-            let mut args = self.by_kind(call, None);
-            args.truncate(at);
-            for (count, value) in [(LIST_LIMIT as i64 + 1, 1), (LIST_LIMIT as i64, (1 << 22) + 1)] {
-                let list = vec![value; count as usize];
-                self.emit(call.op, &[&args[..], &[count], &list].concat());
+        }
+    }
+
+    /// A list with one number too many, and with as many as it may have: the last but one past its range, the last past a length's range, and, where it is a length, all in range.
+    fn list_limits(&mut self, call: &Call, at: usize) {
+        let mut args = self.by_kind(call, None);
+        args.truncate(at);
+        let [value, length] = [22, 20].map(|bits| (1 << bits) + 1);
+        let (last, curve) = (LIST_LIMIT - 1, call.args[at] == Arg::Curve);
+        let lists = [(LIST_LIMIT + 1, 0, 1), (LIST_LIMIT, last - 1, value), (LIST_LIMIT, last, length), (LIST_LIMIT, last, 2)];
+        for &(count, at, number) in &lists[..if curve { 4 } else { 3 }] {
+            let mut list = rising(count);
+            list[at] = number;
+            self.emit(call.op, &[&args[..], &[count as i64], &list].concat());
+        }
+    }
+
+    fn full_lists(&mut self, families: &[i64]) {
+        for list in FULL.iter().filter(|list| families.contains(&(list.op / 100))) {
+            self.emit(902, &[96, 0, 128]);
+            if let [op, args @ ..] = list.before {
+                self.emit(*op, args);
+            }
+            self.emit(list.op, &[list.front, &[LIST_LIMIT as i64], &rising(LIST_LIMIT)].concat());
+            for read in list.reads {
+                self.emit(read[0], &read[1..]);
             }
         }
     }

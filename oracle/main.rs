@@ -8,7 +8,7 @@
 //     oracle cases                  document 01's cases that need only the original
 //     oracle sines SEED COUNT       document 01's sine values beside the original's
 //     oracle tape < tape            what document 01's tape program prints of a tape
-//     oracle tapes SEED COUNT > stream            tapes to compare with
+//     oracle tapes SEED COUNT > stream            tapes to compare with; `oracle tapes lists` only those with lists at their limits
 //     oracle plays < stream         what it prints of each of a stream's tapes, and of an end inside one; `oracle each PROGRAM.. < stream` runs another program on each,
 //                                   `oracle pick N < stream` writes one of them, counted from 0,
 //                                   `oracle thin N < stream` every N-th of them that is short
@@ -81,6 +81,7 @@ fn main() -> Result<()> {
             stdin().read_to_end(&mut bytes)?;
             write!(out, "{}", tape::play(&bytes, &sine::Quarter::new()))?;
         }
+        ["tapes", "lists"] => tapes::write(&tapes::lists(), &mut out)?,
         ["tapes", seed, count] => tapes::write(&tapes::tapes(number(seed), number(count) as usize), &mut out)?,
         ["plays"] => {
             let quarter = sine::Quarter::new();
@@ -102,7 +103,7 @@ fn main() -> Result<()> {
             }
         }
         _ => {
-            eprintln!("oracle run | make SEED COUNT FAMILIES | limits SEED FAMILIES | edges SEED [names] | text | binary | cases | sines SEED COUNT | tape | tapes SEED COUNT | plays | each PROGRAM.. | pick N | thin N");
+            eprintln!("oracle run | make SEED COUNT FAMILIES | limits SEED FAMILIES | edges SEED [names] | text | binary | cases | sines SEED COUNT | tape | tapes SEED COUNT | tapes lists | plays | each PROGRAM.. | pick N | thin N");
             std::process::exit(2);
         }
     }

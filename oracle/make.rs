@@ -4,6 +4,7 @@
 use crate::calls;
 use crate::desk::*;
 use crate::dice::Dice;
+use crate::rules::{FORMER_LIMIT, LIST_LIMIT};
 use crate::script::Step;
 use crate::sine::Quarter;
 use crate::table::{Arg, Call, CALLS};
@@ -48,6 +49,7 @@ pub fn script(seed: u64, count: usize, families: &[i64]) -> Vec<Step> {
             21 if maker.has(&[7]) && maker.dice.one_in(4) => maker.fill(),
             22 if maker.has(&[6]) && maker.has(&[7]) && maker.dice.one_in(30) => maker.plenty(),
             23 if maker.has(&[7]) && maker.dice.one_in(8) => maker.many_writes(),
+            24 if maker.has(&[4, 5, 7]) && maker.dice.one_in(20) => maker.walk(),
             _ => maker.any_call(|_| true),
         }
     }
@@ -268,15 +270,19 @@ impl Maker {
         args
     }
 
-    /// Sixteen reservations of one kind and a seventeenth, one that stands set again, one that only removes, and writes over all of them.
+    /// Sixteen reservations of one kind and a seventeenth, one that stands set again, one that only removes, and writes over all of them; one time in four all lists are full.
     fn fill(&mut self) {
         let op = self.dice.of(&[703, 704, 705, 706]);
         let first = self.dice.pick(0, 113);
-        for target in first..=first + 16 {
-            self.set(op, target);
-        }
+        let full = self.dice.one_in(4);
         let kept = self.dice.pick(first, first + 15);
-        self.set(op, kept);
+        for target in (first..=first + 16).chain([kept]) {
+            if full {
+                self.set_numbers(op, target, LIST_LIMIT as i64);
+            } else {
+                self.set(op, target);
+            }
+        }
         let removes: [&[i64]; 4] = [&[0, 16, 1, 5], &[-3, 16, 1, 5], &[5, 16, 0], &[0, 16, 0]];
         let removing = self.dice.of(&removes);
         self.emit(706, &[&[first + 16], removing].concat());
@@ -285,8 +291,36 @@ impl Maker {
         }
     }
 
+    /// A long list that is read number by number, from its first to past its last: a parameter's, a layer's or a target's, and every second one goes round.
+    fn walk(&mut self) {
+        let family = self.dice.of(&[4, 5, 5, 7]);
+        if !self.has(&[family]) {
+            return;
+        }
+        let (count, which) = (self.dice.pick(FORMER_LIMIT as i64, LIST_LIMIT as i64), self.dice.pick(0, 4));
+        let list: Vec<i64> = [count].into_iter().chain((0..count).map(|_| self.dice.pick(0, 127))).collect();
+        let (repeat, set, front, read, args): ([i64; 2], i64, &[i64], i64, &[i64]) = match family {
+            4 => ([417, which], 406, &[which], 408, &[which, 5]),
+            5 => ([527, 0], 515, &[which], 516, &[100]),
+            _ => ([702, which], 703, &[which, 16], 707, &[0]),
+        };
+        self.emit(902, &[96, 0, 512]);
+        let round = self.dice.pick(0, 1);
+        self.emit(repeat[0], &[repeat[1], round]);
+        self.emit(set, &[front, &list].concat());
+        for _ in 0..count + 2 {
+            self.emit(read, args);
+        }
+    }
+
+    /// Reserves a short list, or a sine.
     pub fn set(&mut self, op: i64, target: i64) {
-        let list: Vec<i64> = (0..self.dice.pick(1, 2) * 3).map(|_| self.dice.pick(0, 20)).collect();
+        let count = self.dice.pick(1, 2) * 3;
+        self.set_numbers(op, target, count);
+    }
+
+    fn set_numbers(&mut self, op: i64, target: i64, count: i64) {
+        let list: Vec<i64> = (0..count).map(|_| self.dice.pick(0, 20)).collect();
         let mut args = vec![target];
         match op {
             704 => args.push(self.dice.pick(0, 2)),

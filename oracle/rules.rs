@@ -6,7 +6,10 @@ use crate::original::*;
 use crate::script::Step;
 use crate::table::{Arg, Call};
 
-pub const LIST_LIMIT: usize = 96;
+/// The most numbers that a list has.
+pub const LIST_LIMIT: usize = 192;
+/// The most that it had before request c). No rule asks it: scripts and tapes are made with it, so that they meet what is new.
+pub const FORMER_LIMIT: usize = 96;
 pub const PLACES: usize = 16;
 const BYTES: i64 = 67_108_864;
 

@@ -4,6 +4,7 @@
 // A stream of tapes is for each its length, four bytes, little end first, and its bytes. It may end inside a tape or a length: then a line says so.
 
 use crate::dice::Dice;
+use crate::rules::{FORMER_LIMIT, LIST_LIMIT};
 use crate::table::Arg;
 use crate::tape::{width, BYTES};
 use std::io::{Read, Result, Write};
@@ -67,6 +68,36 @@ fn filled(bytes: usize) -> Tape {
     tape
 }
 
+/// So many numbers that differ from their neighbours, each fit for a value and for a length.
+fn some(count: usize) -> Vec<i64> {
+    (0..count as i64).map(|at| at * 7 % 20).collect()
+}
+
+/// Numbers in a list at its limits: at the former one and at today's, from both sides.
+const COUNTS: [usize; 4] = [FORMER_LIMIT, FORMER_LIMIT + 1, LIST_LIMIT, LIST_LIMIT + 1];
+
+/// Lists at their limits: all numbers there, which a cycle writes one by one; the last value past its range, and a curve's last length; the last number missing; all missing.
+pub fn lists() -> Vec<Tape> {
+    let mut tapes = vec![];
+    for count in COUNTS {
+        let until = count as i64 - 1;
+        let (value, length) = ((count - 2, (1 << 22) + 1), (count / 3 * 3 - 1, (1 << 20) + 1));
+        for (mark, front, play, faults) in
+            [("OT", &[7][..], record("TP", &[until]), &[value, length][..]), ("CY", &[7, 1], record("RC", &[until]), &[value])]
+        {
+            let list = listed(mark, front, &some(count));
+            tapes.push(with(&[list.clone(), play]));
+            for &(at, past) in faults {
+                let mut numbers = some(count);
+                numbers[at] = past;
+                tapes.push(with(&[listed(mark, front, &numbers)]));
+            }
+            tapes.extend([4, 4 * count].map(|missing| with(&[list[..list.len() - missing].to_vec()])));
+        }
+    }
+    tapes
+}
+
 /// Every limit of "The tape program" from both sides, and of the numbers that its records hand in.
 fn limits() -> Vec<Tape> {
     let mut tapes: Vec<Tape> = vec![document(), vec![], vec![0; 64], vec![0; BYTES], vec![0; BYTES + 1], vec![0xff; 200]];
@@ -80,12 +111,14 @@ fn limits() -> Vec<Tape> {
     }
     // The list full, and taken up again by a cut or by a curve that clears its window.
     tapes.push([rise(512), listed("OT", &[7], &[1, 2, 3]), record("PF", &[300]), listed("OT", &[11], &[3, 2, 1])].concat());
+    let (most, former) = (LIST_LIMIT as i64, FORMER_LIMIT as i64);
+    let around = [former - 1, former, former + 1, former + 2, most - 1, most, most + 1];
     for mark in ["OT", "CY"] {
         let front: &[i64] = if mark == "OT" { &[] } else { &[6] };
         for target in [-1, 0, 127, 128, 129, 130, i64::from(i32::MIN), i64::from(i32::MAX)] {
-            for count in [-1, 0, 1, 95, 96, 97, i64::from(i32::MIN), i64::from(i32::MAX)] {
+            for count in [-1, 0, 1].into_iter().chain(around).chain([i64::from(i32::MIN), i64::from(i32::MAX)]) {
                 for there in [0, count - 1, count, count + 1] {
-                    let numbers = vec![3; there.clamp(0, 98) as usize];
+                    let numbers = vec![3; there.clamp(0, most + 2) as usize];
                     let head = record(mark, &[&[target], front, &[count]].concat());
                     tapes.push(with(&[head, record("", &numbers), record("RC", &[3])]));
                 }
@@ -118,6 +151,11 @@ fn limits() -> Vec<Tape> {
         tapes.push(with(&[kept.concat(), listed("CY", &[last, 0], &[1]), listed("CY", &[last, 5], &[]), record("RC", &[20])]));
     }
     tapes.push(with(&[kept[..15].concat(), listed("CY", &[128, 5], &[1]), listed("CY", &[129, 7], &[2]), record("RC", &[20])]));
+    // Sixteen full lists kept: 32 writes of each fill the list of events, and with 33 there is no room. With four full curves and some short records the tape is full too.
+    let full: Tape = (0..16).flat_map(|target| listed("CY", &[target, 1], &some(LIST_LIMIT))).collect();
+    tapes.extend([31, 32].map(|until| with(&[full.clone(), record("RC", &[15]), record("RC", &[until])])));
+    let curves = [vec![listed("OT", &[7], &some(LIST_LIMIT)); 4], vec![record("FQ", &[2, 2]); 2]].concat().concat();
+    tapes.extend([120, 121].map(|more| with(&[full.clone(), curves.clone(), vec![record("TP", &[9]); more].concat()])));
     // TK and MX missing, late, repeated, exchanged.
     let (track, budget) = (record("TK", &[96, 0]), record("MX", &[800, 7]));
     let curve = listed("OT", &[7], &[0, 9, 9]);
@@ -148,6 +186,7 @@ fn limits() -> Vec<Tape> {
     for cuts in [2047, 2048, 2049, 2050, 2100] {
         tapes.push(with(&[record("TP", &[0]), curve.clone(), vec![record("PF", &[low]); cuts].concat()]));
     }
+    tapes.extend(lists());
     tapes
 }
 
@@ -208,10 +247,24 @@ fn spoil(dice: &mut Dice, records: &mut Vec<Tape>) {
             // One of the numbers before a list, past some range.
             let widest = width(&records[at][..2]).unwrap() as i64;
             let place = 2 + 4 * dice.pick(0, widest - 1) as usize;
-            let past = [-1, 130, 97, 96, 32768, (1 << 20) + 1, (1 << 22) + 1, 67_108_865, i32::MAX, i32::MIN];
+            let [former, new, most, over] = COUNTS.map(|count| count as i32);
+            let past = [-1, 130, former, new, most, over, 32768, (1 << 20) + 1, (1 << 22) + 1, 67_108_865, i32::MAX, i32::MIN];
             records[at][place..place + 4].copy_from_slice(&dice.of(&past).to_le_bytes());
         }
     }
+}
+
+/// Ends the tape inside the longest of its lists: one number missing, all of them, or some bytes. Without a list it stays as it is.
+fn shorten(dice: &mut Dice, records: &mut Vec<Tape>) {
+    let lists = (0..records.len()).filter(|&at| matches!(&records[at][..2], b"OT" | b"CY"));
+    let Some(at) = lists.max_by_key(|&at| records[at].len()) else {
+        return;
+    };
+    records.truncate(at + 1);
+    let head = 2 + 4 * width(&records[at][..2]).unwrap();
+    let there = dice.pick(head as i64, records[at].len() as i64) as usize;
+    let there = dice.of(&[there, head, (records[at].len() - 4).max(head)]);
+    records[at].truncate(there);
 }
 
 /// `count` tapes, or the limits if they are more.
@@ -222,7 +275,7 @@ pub fn tapes(seed: u64, count: usize) -> Vec<Tape> {
     while tapes.len() < count {
         let mut records = good_records(&mut dice);
         match dice.pick(0, 19) {
-            0 if records.len() < 8 && dice.one_in(12) => tapes.extend(prefixes(&records.concat())),
+            0 if records.concat().len() < 128 && dice.one_in(12) => tapes.extend(prefixes(&records.concat())),
             0..=6 => {
                 spoil(&mut dice, &mut records);
                 tapes.push(records.concat());
@@ -235,6 +288,10 @@ pub fn tapes(seed: u64, count: usize) -> Vec<Tape> {
                     tape[at] = dice.pick(0, 255) as u8;
                 }
                 tapes.push(tape);
+            }
+            8 => {
+                shorten(&mut dice, &mut records);
+                tapes.push(records.concat());
             }
             _ => tapes.push(records.concat()),
         }

@@ -4,10 +4,11 @@
 use crate::dice::Dice;
 use crate::dollavir::*;
 use crate::other::Other;
+use crate::rules::LIST_LIMIT;
 use crate::table::Call;
 
 const FLAGS: [u32; 3] = [2, 255, u32::MAX];
-const COUNTS: [usize; 4] = [97, 98, 1 << 32, usize::MAX];
+const COUNTS: [usize; 4] = [LIST_LIMIT + 1, LIST_LIMIT + 2, 1 << 32, usize::MAX];
 const TABLE: [usize; 4] = [17, 18, 1 << 32, usize::MAX];
 
 /// Puts one such number into what the call is lent; answers its name, or nothing where there was no place for it.
@@ -19,7 +20,7 @@ pub fn put(dice: &mut Dice, desk: &mut Other, call: &Call, args: &[i64]) -> Opti
     }
     if call.takes('C') && desk.track.cycles > 0 && dice.one_in(4) {
         let place = dice.pick(0, desk.track.cycles as i64 - 1) as usize;
-        desk.cycles[place].values.count = dice.of(&[0, 97, usize::MAX]);
+        desk.cycles[place].values.count = dice.of(&[0, LIST_LIMIT + 1, usize::MAX]);
         return Some("a cycle's count");
     }
     if !call.takes('T') {

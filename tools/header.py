@@ -12,11 +12,17 @@ import os, re, sys
 CRATE = 'ctrack'
 C = {'u8': 'uint8_t', 'u32': 'uint32_t', 'u64': 'uint64_t', 'usize': 'size_t', 'i32': 'int32_t', 'i64': 'int64_t'}
 BYTES = {'u8': 1, 'u32': 4, 'i32': 4, 'u64': 8, 'i64': 8, 'usize': 8}
+LIMIT = 'LIST_LIMIT'  # of `counted`; a client has it under the same name
+LAYOUT = 2  # one more whenever a record's size or a field's place changes
 
 
 def source(crate):
     folder = f'crates/{crate}/src'
     return '\n'.join(open(f'{folder}/{f}').read() for f in sorted(os.listdir(folder)) if f.endswith('.rt'))
+
+
+def constant(name, crate):
+    return re.search(r'const %s: usize = (\d+);' % name, source(crate))[1]
 
 
 def crates():
@@ -36,7 +42,7 @@ class Library:
             ps = [tuple(x.strip() for x in p.split(':')) for p in re.split(r',(?![^\[]*\])', params) if p.strip()]
             self.functions.append((name, ' '.join(lines), ps, result))
         self.homes = {s: c for c, s in re.findall(r'^use (\w+)::([A-Z][a-z]\w*);', text, re.M)}
-        self.structs = {}
+        self.structs, self.limit = {}, int(constant(LIMIT, 'counted'))
         for _, _, ps, result in self.functions:
             for t in [t for _, t in ps] + [result]:
                 for s in re.findall(r'\b[A-Z]\w*', t or ''):
@@ -54,11 +60,11 @@ class Library:
         for f, t in re.findall(r'pub (\w+): ([^,]+),', m[1]):
             a = re.fullmatch(r'\[(\w+); (\w+)\]', t)
             of, n = (a[1], a[2]) if a else (t, None)
-            if n and not n.isdigit():
-                n = re.search(r'const %s: usize = (\d+);' % n, source(homes.get(n, crate)))[1]
+            if n and not n.isdigit() and n != LIMIT:
+                n = constant(n, homes.get(n, crate))
             if of[0].isupper():
                 self.reach(of, homes.get(of, crate))
-            fields.append((f, of, n and int(n)))
+            fields.append((f, of, n))
         about = re.search(r'((?:^//[^\n]*\n)*)#\[repr\(C\)\]\npub struct %s ' % name, text, re.M)[1]
         self.structs[name] = (crate, fields, ' '.join(l.removeprefix('//').strip() for l in about.strip().split('\n')))
 
@@ -72,7 +78,7 @@ class Library:
             size, align = self.bytes_of(t)
             end = -(-end // align) * align
             places.append(end)
-            end, most = end + size * (n or 1), max(most, align)
+            end, most = end + size * (self.limit if n == LIMIT else int(n or 1)), max(most, align)
         return -(-end // most) * most, most, places
 
 
@@ -89,25 +95,35 @@ def snake(name):
     return 'dollavir_' + re.sub(r'(?<=.)([A-Z])', r'_\1', name).lower()
 
 
-NUMBERS = ['0 done', '1 the list is not a whole number of records, its count is above it, or the cycle table has not sixteen', '2 a target or controller argument is none',
-           '3 an argument list has more than 96 numbers', '4 a number is against its range or rule, or a resulting event time is more than 2^42 from 0', '5 a layer above 15', '6 no place in a reservation table',
-           '7 the list that is left holds more events than the buffer']
+def numbers(lib):
+    return ['0 done', '1 the list is not a whole number of records, its count is above it, or the cycle table has not sixteen', '2 a target or controller argument is none',
+            f'3 an argument list has more than {lib.limit} numbers', '4 a number is against its range or rule, or a resulting event time is more than 2^42 from 0',
+            '5 a layer above 15', '6 no place in a reservation table', '7 the list that is left holds more events than the buffer']
+
+
 ABOUT = ['What a function answers as a 32-bit number is one of this table; where it is not 0, all that is lent is as it was:']
 ASKED = ('A pointer must be valid, aligned and not null, also where its length is 0, and what two parameters point at must not overlap. '
          'A slice is a pointer and the number of its elements. The event list has eight numbers a record: kind, time, channel, v1, v2, v3, offset, length. '
          'What a function does not read it does not test: dollavir_write_cc_on_note and dollavir_write_cc_on_cycle only append, and ask no event of the list.')
+LIMIT_IS = 'How many numbers a list may have.'
+LAYOUT_IS = 'The layout\'s number: 1 had lists of 96. A host compiled for another must be compiled again; the size of a track is asserted below.'
 
 
 def c_type(t):
     return C.get(t) or snake(t)
 
 
+def c_length(n):
+    return n if n.isdigit() else f'DOLLAVIR_{n}'
+
+
 def c_header(lib):
-    out = ['/* The calls of Dollavir from C. Made by tools/header.py from crates/ctrack/src; not edited by hand.', ' *'] + [f' * {l}' for l in ABOUT] + [f' *   {l}' for l in NUMBERS]
+    out = ['/* The calls of Dollavir from C. Made by tools/header.py from crates/ctrack/src; not edited by hand.', ' *'] + [f' * {l}' for l in ABOUT] + [f' *   {l}' for l in numbers(lib)]
     out += wrapped(ASKED, ' *') + [' */', '#ifndef DOLLAVIR_H', '#define DOLLAVIR_H', '', '#include <stddef.h>', '#include <stdint.h>', '', '#ifdef __cplusplus', 'extern "C" {', '#endif', '']
+    out += comment(LIMIT_IS) + [f'#define DOLLAVIR_{LIMIT} {lib.limit}'] + comment(LAYOUT_IS) + [f'#define DOLLAVIR_LAYOUT {LAYOUT}', '']
     for name, (_, fields, about) in lib.structs.items():
         out += comment(about)
-        out += ['typedef struct {'] + [f'    {c_type(t)} {f}{f"[{n}]" if n else ""};' for f, t, n in fields] + [f'}} {snake(name)};', '']
+        out += ['typedef struct {'] + [f'    {c_type(t)} {f}{f"[{c_length(n)}]" if n else ""};' for f, t, n in fields] + [f'}} {snake(name)};', '']
     out += ['#if defined(__STDC_VERSION__) && __STDC_VERSION__ >= 201112L', '_Static_assert(sizeof(size_t) == 8, "size_t");']
     for name, (_, fields, _) in lib.structs.items():
         size, align, places = lib.layout(name)
@@ -138,7 +154,8 @@ def comment(text):
 
 def rust(lib):
     out = ['// The calls of Dollavir for a Rust client that links the library. Made by tools/header.py from crates/ctrack/src; not edited by hand.']
-    out += ['// ' + l for l in ABOUT] + ['//   ' + l for l in NUMBERS] + wrapped(ASKED, '//') + ['']
+    out += ['// ' + l for l in ABOUT] + ['//   ' + l for l in numbers(lib)] + wrapped(ASKED, '//') + ['']
+    out += wrapped(LIMIT_IS, '//', 114) + [f'pub const {LIMIT}: usize = {lib.limit};'] + wrapped(LAYOUT_IS, '//', 114) + [f'pub const LAYOUT: u32 = {LAYOUT};', '']
     for name, (_, fields, about) in lib.structs.items():
         out += wrapped(about, '//', 114) * bool(about) + ['#[repr(C)]', '#[derive(Clone, Copy, Debug, PartialEq, Eq)]', f'pub struct {name} {{']
         out += [f'    pub {f}: {f"[{t}; {n}]" if n else t},' for f, t, n in fields] + ['}', '']

@@ -1,4 +1,4 @@
--- 01, "Numbers a caller may hand in": a list has at most 96 numbers, each within ±2^22.
+-- 01, "Numbers a caller may hand in": a list has at most 192 numbers (02, c), each within ±2^22.
 use mathlib.Core.Bool.{Bool, cond}
 use mathlib.Core.List.{List, _++_}
 use Prim.Native.Nat.{ℕ}

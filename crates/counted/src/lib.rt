@@ -10,7 +10,7 @@ use numbers::is_length;
 use numbers::is_number;
 
 // How many numbers a list may have.
-pub const LIST_LIMIT: usize = 96;
+pub const LIST_LIMIT: usize = 192;
 
 #[repr(C)]
 pub struct Numbers {

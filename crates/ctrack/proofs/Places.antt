@@ -46,34 +46,34 @@ lies tyUnit = []
 lies (tyEnum ν τss) = []
 lies (tyNamed ν) = []
 
-pub numbers-lies : lies Numbers′.mir ≡ 392 ∷ 8 ∷ 0 ∷ 8 ∷ []
+pub numbers-lies : lies Numbers′.mir ≡ 776 ∷ 8 ∷ 0 ∷ 8 ∷ []
 numbers-lies = refl
 
-pub reserve-lies : lies Reserve′.mir ≡ 424 ∷ 8 ∷ 0 ∷ 4 ∷ 8 ∷ 16 ∷ 24 ∷ 32 ∷ []
+pub reserve-lies : lies Reserve′.mir ≡ 808 ∷ 8 ∷ 0 ∷ 4 ∷ 8 ∷ 16 ∷ 24 ∷ 32 ∷ []
 reserve-lies = refl
 
-pub note-param-lies : lies NoteParam′.mir ≡ 456 ∷ 8 ∷ 0 ∷ 424 ∷ 428 ∷ 432 ∷ 436 ∷ 440 ∷ 444 ∷ 448 ∷ 452 ∷ []
+pub note-param-lies : lies NoteParam′.mir ≡ 840 ∷ 8 ∷ 0 ∷ 808 ∷ 812 ∷ 816 ∷ 820 ∷ 824 ∷ 828 ∷ 832 ∷ 836 ∷ []
 note-param-lies = refl
 
-pub layer-lies : lies Layer′.mir ≡ 432 ∷ 8 ∷ 0 ∷ 4 ∷ 8 ∷ []
+pub layer-lies : lies Layer′.mir ≡ 816 ∷ 8 ∷ 0 ∷ 4 ∷ 8 ∷ []
 layer-lies = refl
 
-pub layers-lies : lies Layers′.mir ≡ 6920 ∷ 8 ∷ 0 ∷ 8 ∷ []
+pub layers-lies : lies Layers′.mir ≡ 13064 ∷ 8 ∷ 0 ∷ 8 ∷ []
 layers-lies = refl
 
 pub write-option-lies : lies WriteOption′.mir ≡ 24 ∷ 4 ∷ 0 ∷ 4 ∷ 8 ∷ 12 ∷ 16 ∷ 20 ∷ []
 write-option-lies = refl
 
-pub on-note-values-lies : lies OnNoteValues′.mir ≡ 416 ∷ 8 ∷ 0 ∷ 8 ∷ 16 ∷ 24 ∷ []
+pub on-note-values-lies : lies OnNoteValues′.mir ≡ 800 ∷ 8 ∷ 0 ∷ 8 ∷ 16 ∷ 24 ∷ []
 on-note-values-lies = refl
 
-pub note-table-lies : lies NoteTable′.mir ≡ 6664 ∷ 8 ∷ 0 ∷ 8 ∷ []
+pub note-table-lies : lies NoteTable′.mir ≡ 12808 ∷ 8 ∷ 0 ∷ 8 ∷ []
 note-table-lies = refl
 
-pub on-note-wave-lies : lies OnNoteWave′.mir ≡ 400 ∷ 8 ∷ 0 ∷ 4 ∷ 8 ∷ []
+pub on-note-wave-lies : lies OnNoteWave′.mir ≡ 784 ∷ 8 ∷ 0 ∷ 4 ∷ 8 ∷ []
 on-note-wave-lies = refl
 
-pub wave-table-lies : lies WaveTable′.mir ≡ 6408 ∷ 8 ∷ 0 ∷ 8 ∷ []
+pub wave-table-lies : lies WaveTable′.mir ≡ 12552 ∷ 8 ∷ 0 ∷ 8 ∷ []
 wave-table-lies = refl
 
 pub on-note-sine-lies : lies OnNoteSine′.mir ≡ 24 ∷ 4 ∷ 0 ∷ 4 ∷ 8 ∷ 12 ∷ 16 ∷ 20 ∷ []
@@ -82,10 +82,10 @@ on-note-sine-lies = refl
 pub sine-table-lies : lies SineTable′.mir ≡ 392 ∷ 8 ∷ 0 ∷ 8 ∷ []
 sine-table-lies = refl
 
-pub track-lies : lies Track′.mir ≡ 25816 ∷ 8 ∷ 0 ∷ 8 ∷ 16 ∷ 20 ∷ 24 ∷ 28 ∷ 32 ∷ 36 ∷ 40 ∷ 44 ∷ 48 ∷ 504 ∷ 960 ∷ 1416 ∷ 1872 ∷ 2328 ∷ 9248 ∷ 12344 ∷ 19008 ∷ 25416 ∷ 25808 ∷ []
+pub track-lies : lies Track′.mir ≡ 46168 ∷ 8 ∷ 0 ∷ 8 ∷ 16 ∷ 20 ∷ 24 ∷ 28 ∷ 32 ∷ 36 ∷ 40 ∷ 44 ∷ 48 ∷ 888 ∷ 1728 ∷ 2568 ∷ 3408 ∷ 4248 ∷ 17312 ∷ 20408 ∷ 33216 ∷ 45768 ∷ 46160 ∷ []
 track-lies = refl
 
-pub track-answer-lies : lies TrackAnswer′.mir ≡ 25824 ∷ 8 ∷ 0 ∷ 8 ∷ []
+pub track-answer-lies : lies TrackAnswer′.mir ≡ 46176 ∷ 8 ∷ 0 ∷ 8 ∷ []
 track-answer-lies = refl
 
 pub budget-lies : lies Budget′.mir ≡ 16 ∷ 4 ∷ 0 ∷ 4 ∷ 8 ∷ 12 ∷ []
@@ -94,16 +94,16 @@ budget-lies = refl
 pub budget-answer-lies : lies BudgetAnswer′.mir ≡ 20 ∷ 4 ∷ 0 ∷ 4 ∷ []
 budget-answer-lies = refl
 
-pub cycle-lies : lies Cycle′.mir ≡ 416 ∷ 8 ∷ 0 ∷ 4 ∷ 8 ∷ 16 ∷ 24 ∷ []
+pub cycle-lies : lies Cycle′.mir ≡ 800 ∷ 8 ∷ 0 ∷ 4 ∷ 8 ∷ 16 ∷ 24 ∷ []
 cycle-lies = refl
 
 pub sine-answer-lies : lies SineAnswer′.mir ≡ 28 ∷ 4 ∷ 0 ∷ 4 ∷ []
 sine-answer-lies = refl
 
-pub on-cycle-time-lies : lies OnCycleTime′.mir ≡ 408 ∷ 8 ∷ 0 ∷ 8 ∷ 16 ∷ []
+pub on-cycle-time-lies : lies OnCycleTime′.mir ≡ 792 ∷ 8 ∷ 0 ∷ 8 ∷ 16 ∷ []
 on-cycle-time-lies = refl
 
-pub cycle-time-answer-lies : lies CycleTimeAnswer′.mir ≡ 416 ∷ 8 ∷ 0 ∷ 8 ∷ []
+pub cycle-time-answer-lies : lies CycleTimeAnswer′.mir ≡ 800 ∷ 8 ∷ 0 ∷ 8 ∷ []
 cycle-time-answer-lies = refl
 
 pub event-lies : lies Event′.mir ≡ 64 ∷ 8 ∷ 0 ∷ 8 ∷ 16 ∷ 24 ∷ 32 ∷ 40 ∷ 48 ∷ 56 ∷ []

@@ -1,10 +1,11 @@
 // Numbers of 32 bits: lists as a call is handed them, and answers.
+use counted::LIST_LIMIT;
 use script::args::arg;
 use script::args::as_i32;
 use script::args::as_usize;
 
 // So many numbers of a list are handed in: one more than a list may have.
-pub const HANDED: usize = 97;
+pub const HANDED: usize = LIST_LIMIT + 1;
 
 // How many numbers the list whose count stands at `from` has; of one that is too long, one too many.
 pub fn count_of(args: &[i64], from: usize) -> usize {

@@ -98,7 +98,7 @@ pub record Drawn (d : Draw) (r : Outcome) (l : List ℤ) : Type 0 where
   pub left : l ≡ drawLeft d
 
 -- ---- the calls
--- "a list has at most 96 numbers"; "in curve lists the third of each triple within ±2^20"
+-- "a list has at most 192 numbers" (02, c); "in curve lists the third of each triple within ±2^20"
 abbrev pub onTime : Track → ℤ → List ℤ → Budget → List ℤ → ℕ → ℕ → Draw
 onTime a target v b l count store =
     record {

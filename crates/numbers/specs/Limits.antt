@@ -1,9 +1,9 @@
 -- The document's counts, each under its one name.
 use Prim.Native.Nat.{ℕ}
 
--- 01, "Numbers a caller may hand in": a list has at most 96 numbers
+-- 01, "Numbers a caller may hand in": a list has at most 192 numbers (02, c)
 abbrev pub listLimit : ℕ
-listLimit = 96
+listLimit = 192
 
 -- 01, "Numbers a caller may hand in": sixteen reservations of each kind
 abbrev pub places : ℕ

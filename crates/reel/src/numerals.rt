@@ -7,6 +7,7 @@ ghost use Rattle.numbers.specs.Limits.{listLimit};
 ghost use Rattle.counted.specs.Numbers.{numbers};
 ghost use Rattle.reel.specs.Numbers.{lettersAt, numbersAt};
 ghost use Rattle.reel.specs.Records.{isCount};
+use counted::LIST_LIMIT;
 use counted::Numbers;
 use text::number_at;
 
@@ -29,7 +30,7 @@ pub fn letters_at(tape: &[u8], at: usize) -> u32
 pub fn is_count(n: i32) -> bool
     ensures { λ r. ⌜ r ≡ isCount n ⌝ }
 {
-    numbers::within_i32(0, n, 96)
+    numbers::within_i32(0, n, LIST_LIMIT as i32)
 }
 
 // n as a count: none below 0.

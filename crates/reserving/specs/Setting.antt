@@ -24,7 +24,7 @@ use Rattle.state.specs.Track.{cyclesOf, withTables}
 use Rattle.reserving.specs.declared.Kept.{Kept}
 use Rattle.reserving.specs.Clearing.{answer, reserving, freed}
 
--- "a list has at most 96 numbers"
+-- "a list has at most 192 numbers" (02, c)
 abbrev pub isShort : List ℤ → Bool
 isShort v = leb (length v) listLimit
 

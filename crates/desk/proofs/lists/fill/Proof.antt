@@ -1,8 +1,9 @@
--- `fill` is safe and ends: 97 numbers, and the list stays as long as it was.
+-- `fill` is safe and ends: one number more than a list may have, and the list stays as long as it was.
 use mathlib.Core.Path.{_≡_, refl}
-use Prim.Native.Nat.{_-_}
+use Prim.Native.Nat.{_+_, _-_}
 use lib.ListN.{length}
 use borrow.Author.Needs.{needs}
+use Rattle.numbers.specs.Limits.{listLimit}
 use Rattle.desk.proofs.lists.fill.Statement.{statement}
 use Rattle.desk.proofs.lists.fill.Tie as tie
 
@@ -10,7 +11,7 @@ abbrev Inv-loop : tie.InvT-loop
 Inv-loop list₀ args from i₀ list i = length list ≡ length list₀
 
 abbrev μ-loop : tie.MeasureT-loop
-μ-loop list₀ args from i₀ list i = 97 - i
+μ-loop list₀ args from i₀ list i = listLimit + 1 - i
 
 loop-holds : tie.Need-loop-holds Inv-loop μ-loop
 loop-holds c = refl
