@@ -1,5 +1,5 @@
 // How much stack the library's calls take: each is made in a thread of its own, whose stack was painted before, and the deepest byte that lost its paint is looked for. What a thread takes that
-// calls nothing is left out. `tools/link stack` builds and runs it; docs/LINKING.md has what was seen.
+// calls nothing is left out; a call that takes no more than that shows 0. `tools/link stack` builds and runs it; docs/LINKING.md has what was seen.
 #define _XOPEN_SOURCE 700
 #include <pthread.h>
 #include <stdint.h>
@@ -100,7 +100,7 @@ static size_t idle, most;
 
 static void measure(const struct call *calls) {
     for (; calls->name != NULL; calls++) {
-        size_t took = depth(calls->make) - idle;
+        size_t deep = depth(calls->make), took = deep > idle ? deep - idle : 0;
         printf("%s: %zu bytes%s\n", calls->name, took, code ? ", refused" : "");
         most = took > most ? took : most;
     }
