@@ -14,7 +14,9 @@ use cycles::run_table;
 use eventlist::WIDTH;
 use numbers::is_time;
 use state::Track;
-use state::lent_ok;
+use state::cycles_of;
+use state::lent_alone;
+use state::track_ok;
 
 // What a cycle call answers: its number, the count of the list, the budget and the cycle table afterwards.
 #[repr(C)]
@@ -42,9 +44,13 @@ pub fn cycle_refusal(
         return 1;
     }
     let a = is_time(until);
-    let b = lent_ok(track, cycles);
+    let b = track_ok(track);
     let c = budget_ok(budget);
     if !(a & b & c) {
+        return 4;
+    }
+    let own = cycles_of(track, cycles);
+    if !lent_alone(track.notes, track.waves, track.sines, own) {
         return 4;
     }
     let owes = owed_by(cycles, track.cycles, until);

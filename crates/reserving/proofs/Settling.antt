@@ -2,8 +2,8 @@
 --     refused, done   the answer by its number
 --     passed-on, no-place, put-in   the second step
 --     setting         the old entries go, then a place is asked for: this is the one definition, whatever is put and wherever
---     listed          a list that was laid is the lent one, unless it is too long, and then nothing else counts
---     settled, list-settled   what the code of a setter gives, without a list and with one
+--     relisted        a list that was laid is the lent one, unless it is too long, and then nothing else counts
+--     turned-away, settled   the two ends of a setter's code
 use mathlib.Core.Path.{_≡_, refl, sym, ap, _∙_}
 use mathlib.Core.Bool.{Bool, true, false, cond, _&&_}
 use mathlib.Core.List.{List}
@@ -91,22 +91,25 @@ module _ (a : Track) (size : ℕ) (cs : List Cycle) (target : ℤ) where
     abbrev laid : Bool → Listed
     laid b = cond b (record { code = 3; list = none }) (record { code = 0; list = numbers v })
 
-    pub listed : with (eqb (numbersOf v .code) 0) (numbersOf v .list) ≡ with (isShort v) (numbers v)
+    listed : with (eqb (numbersOf v .code) 0) (numbersOf v .list) ≡ with (isShort v) (numbers v)
     listed = go (isShort v) refl
       where
         go : (b : Bool) → isShort v ≡ b → with (eqb (numbersOf v .code) 0) (numbersOf v .list) ≡ with b (numbers v)
         go true e = ap (λ (t : Bool). with (eqb (laid t .code) 0) (laid t .list)) (le-ltb listLimit (length v) (leb-true (length v) listLimit e))
         go false e = ap (λ (t : Bool). with (eqb (laid t .code) 0) (laid t .list)) (lt-ltb listLimit (length v) (leb-false (length v) listLimit e)) ∙ unread none (numbers v)
 
-  -- both steps of a setter's code
-  pub settled : {f r : Kept} (short ok : Bool) (room : Kept → Bool) (put : Kept → Kept) → r ≡ placed a cs room put f → f ≡ freed a size cs target short ok → r ≡ reserving a size cs target short ok room put
-  settled short ok room put p q = p ∙ ap (placed a cs room put) q ∙ setting room put short ok
+    pub relisted : {l : Listed} → l ≡ numbersOf v → with (eqb (l .code) 0) (l .list) ≡ with (isShort v) (numbers v)
+    relisted e = ap (λ (x : Listed). with (eqb (x .code) 0) (x .list)) e ∙ listed
 
-  -- the same where a list was laid
-  pub list-settled : {f r : Kept} {l : Listed} (v : List ℤ) (ok : Numbers → Bool) (room : Kept → Bool) (put : Numbers → Kept → Kept)
-      → l ≡ numbersOf v → r ≡ placed a cs room (put (l .list)) f → f ≡ freed a size cs target (eqb (l .code) 0) (ok (l .list))
-      → r ≡ reserving a size cs target (isShort v) (ok (numbers v)) room (put (numbers v))
-  list-settled {l = l} v ok room put e p q =
-      settled (eqb (l .code) 0) (ok (l .list)) room (put (l .list)) p q
-      ∙ ap (λ (x : Listed). reserving a size cs target (eqb (x .code) 0) (ok (x .list)) room (put (x .list))) e
-      ∙ listed v ok (λ (x : Numbers). room) put
+  -- the two ends of a setter's code, by the number that was asked
+  module _ {m : ℕ} (short ok : Bool) (room : Kept → Bool) (put : Kept → Kept) (e : m ≡ refusal a size cs target short ok true) where
+    pub turned-away : (m ≡ 0 → ⊥) → answer m a cs ≡ reserving a size cs target short ok room put
+    unfolding reserving
+    turned-away h =
+        passed-on a cs room put (answer m a cs) h
+        ∙ ap (placed a cs room put) (refused e a cs (cleared a cs (key target)) h)
+        ∙ setting room put short ok
+
+    pub settled : {r : Kept} → m ≡ 0 → r ≡ placed a cs room put (cleared a cs (key target)) → r ≡ reserving a size cs target short ok room put
+    unfolding reserving
+    settled z p = p ∙ ap (placed a cs room put) (done e a cs (cleared a cs (key target)) z) ∙ setting room put short ok

@@ -2,10 +2,16 @@
 // one reservation over all four kinds, so that every setter first takes its old ones out and then puts one at the end. A call
 // is handed the track, the sixteen cycle records by value and how many were lent; refused, it hands back what it was given.
 ghost use mathlib.Core.Path.{_≡_};
-ghost use mathlib.Core.Bool.{true};
+ghost use mathlib.Core.Bool.{true, false, cond, _||_};
+ghost use Prim.Native.Nat.{_<_};
+ghost use Rattle.numbers.specs.Limits.{places};
+ghost use Rattle.cycles.specs.Turns.{optionOf};
+ghost use Rattle.tables.specs.Tables.{cyclesWith};
+ghost use Rattle.state.specs.Track.{withTables};
 ghost use Rattle.state.specs.Tests.{okLent};
-ghost use Rattle.reserving.specs.Clearing.{refusal, cleared, freed, placed};
-ghost use Rattle.reserving.specs.Setting.{repeatOf, noteRoom, waveRoom, sineRoom, cycleRoom, withNote, withWave, withSine, withCycle, removeReserve, setOnNote, setOnNoteWave, setOnNoteSine, setOnCycle};
+ghost use Rattle.reserving.specs.declared.Kept.{Kept};
+ghost use Rattle.reserving.specs.Clearing.{answer, refusal, cleared, placed};
+ghost use Rattle.reserving.specs.Setting.{noteRoom, waveRoom, sineRoom, cycleRoom, withNote, withWave, withSine, withCycle, removeReserve, setOnNote, setOnNoteWave, setOnNoteSine, setOnCycle};
 ghost use Rattle.reserving.specs.Old.{removeCcOn, setCcOnNote, setCcOnNoteWave, setPbOnNoteWave, removePbOnNoteWave, aloneRefusal, removeCcOnNote, removeCcOnNoteWave};
 use counted::numbers_of;
 use counted::numbers_ok;
@@ -16,15 +22,20 @@ use drawing::cc_target;
 use drawing::pb_target;
 use numbers::is_length;
 use numbers::is_target;
+use state::OPTIONS;
 use state::Track;
 use state::TrackAnswer;
 use state::cycles_of;
-use state::lent_ok;
+use state::lent_alone;
 use state::track_ok;
+use tables::CycleTable;
 use tables::NORMAL;
+use tables::NoteTable;
 use tables::OnNoteSine;
 use tables::OnNoteValues;
 use tables::OnNoteWave;
+use tables::SineTable;
+use tables::WaveTable;
 use tables::note_ok;
 use tables::put_cycle;
 use tables::put_note;
@@ -36,6 +47,7 @@ use tables::take_note;
 use tables::take_sine;
 use tables::take_wave;
 use tables::wave_ok;
+use values::WriteOption;
 
 // The track and the cycle table as a call leaves them.
 #[repr(C)]
@@ -65,43 +77,60 @@ fn asked(
     if !short {
         return 3;
     }
-    if !(lent_ok(track, cycles) & ok) {
+    if !(track_ok(track) & ok) {
+        return 4;
+    }
+    let own = cycles_of(track, cycles);
+    if !lent_alone(track.notes, track.waves, track.sines, own) {
         return 4;
     }
     0
 }
 
-// The track and the table without the target of key `k`, of whatever kind.
-fn cleared(mut track: Track, cycles: [Cycle; PLACES], k: usize) -> Kept
-    requires { ⌜ okLent track cycles ≡ true ⌝ }
-    ensures { λ r. ⌜ r ≡ cleared track cycles k ⌝ }
+// The track and the table with these tables for their own. The tables are made first, each of its own part, so that the track is copied
+// once.
+fn with_tables(
+    track: Track,
+    notes: NoteTable,
+    waves: WaveTable,
+    sines: SineTable,
+    own: CycleTable,
+) -> Kept
+    ensures { λ r. ⌜ r ≡ answer 0 (withTables track notes waves sines (own .count)) (own .items) ⌝ }
 {
-    let own = cycles_of(track, cycles);
-    let rest = take_cycle(own, k);
-    track.notes = take_note(track.notes, k);
-    track.waves = take_wave(track.waves, k);
-    track.sines = take_sine(track.sines, k);
-    track.cycles = rest.count;
-    let items = rest.items;
+    let mut left = track;
+    left.notes = notes;
+    left.waves = waves;
+    left.sines = sines;
+    left.cycles = own.count;
+    let items = own.items;
     Kept {
         code: 0,
-        track: track,
+        track: left,
         cycles: items,
     }
 }
 
-// What every setter does first: the tests, and then the old reservations are taken out.
-fn freed(
-    track: Track,
-    size: usize,
-    cycles: [Cycle; PLACES],
-    target: i32,
-    short: bool,
-    ok: bool,
-) -> Kept
-    ensures { λ r. ⌜ r ≡ freed track size cycles target short ok ⌝ }
+// The track and the table without the target of key `k`, of whatever kind.
+fn cleared(track: Track, cycles: [Cycle; PLACES], k: usize) -> Kept
+    requires { ⌜ okLent track cycles ≡ true ⌝ }
+    ensures { λ r. ⌜ r ≡ cleared track cycles k ⌝ }
 {
-    let code = asked(track, size, cycles, target, short, ok);
+    let own = cycles_of(track, cycles);
+    with_tables(
+        track,
+        take_note(track.notes, k),
+        take_wave(track.waves, k),
+        take_sine(track.sines, k),
+        take_cycle(own, k),
+    )
+}
+
+// Nothing stays reserved for a target, of whatever kind. Refuses 1, 2, 4.
+pub fn remove_reserve(track: Track, size: usize, cycles: [Cycle; PLACES], target: i32) -> Kept
+    ensures { λ r. ⌜ r ≡ removeReserve track size cycles target ⌝ }
+{
+    let code = asked(track, size, cycles, target, true, true);
     if code != 0 {
         return Kept {
             code: code,
@@ -113,44 +142,35 @@ fn freed(
     cleared(track, cycles, k)
 }
 
-// Nothing stays reserved for a target, of whatever kind. Refuses 1, 2, 4.
-pub fn remove_reserve(track: Track, size: usize, cycles: [Cycle; PLACES], target: i32) -> Kept
-    ensures { λ r. ⌜ r ≡ removeReserve track size cycles target ⌝ }
+// One list more for notes, in place of what is reserved for its key `k`: the old entries go, and then a place is asked for.
+fn put_in_notes(track: Track, cycles: [Cycle; PLACES], k: usize, e: OnNoteValues) -> Kept
+    requires { ⌜ okLent track cycles ≡ true ⌝ }
+    ensures { λ r. ⌜ r ≡ placed track cycles noteRoom (withNote e) (cleared track cycles k) ⌝ }
 {
-    freed(track, size, cycles, target, true, true)
-}
-
-// One list more for notes, where a place is left; `free` is the track and the table without the target's old ones.
-fn put_in_notes(track: Track, cycles: [Cycle; PLACES], free: Kept, e: OnNoteValues) -> Kept
-    ensures { λ r. ⌜ r ≡ placed track cycles noteRoom (withNote e) free ⌝ }
-{
-    if free.code != 0 {
-        return free;
-    }
-    let mut left = free.track;
-    let table = left.notes;
-    if PLACES <= table.count {
+    let notes = take_note(track.notes, k);
+    if PLACES <= notes.count {
         return Kept {
             code: 6,
             track: track,
             cycles: cycles,
         };
     }
-    left.notes = put_note(table, e);
-    let items = free.cycles;
-    Kept {
-        code: 0,
-        track: left,
-        cycles: items,
-    }
+    let own = cycles_of(track, cycles);
+    with_tables(
+        track,
+        put_note(notes, e),
+        take_wave(track.waves, k),
+        take_sine(track.sines, k),
+        take_cycle(own, k),
+    )
 }
 
 // Whether the lists of a target's notes go round.
-fn repeat_of(track: Track, target: i32) -> u32
-    ensures { λ r. ⌜ r ≡ repeatOf track target ⌝ }
+fn repeat_of(options: [WriteOption; OPTIONS], target: i32) -> u32
+    ensures { λ r. ⌜ r ≡ optionOf options target .repeat ⌝ }
 {
     let k = key_of(target);
-    let option = track.options[k];
+    let option = options[k];
     option.repeat
 }
 
@@ -166,39 +186,46 @@ pub fn set_on_note(
 {
     let listed = numbers_of(list);
     let values = listed.list;
+    let options = track.options;
     let e = OnNoteValues {
         target: target,
         index: 0,
-        cycling: repeat_of(track, target),
+        cycling: repeat_of(options, target),
         values: values,
     };
-    let free = freed(track, size, cycles, target, listed.code == 0, note_ok(e));
-    put_in_notes(track, cycles, free, e)
+    let code = asked(track, size, cycles, target, listed.code == 0, note_ok(e));
+    if code != 0 {
+        return Kept {
+            code: code,
+            track: track,
+            cycles: cycles,
+        };
+    }
+    let k = key_of(target);
+    put_in_notes(track, cycles, k, e)
 }
 
 // The same with a wave.
-fn put_in_waves(track: Track, cycles: [Cycle; PLACES], free: Kept, e: OnNoteWave) -> Kept
-    ensures { λ r. ⌜ r ≡ placed track cycles waveRoom (withWave e) free ⌝ }
+fn put_in_waves(track: Track, cycles: [Cycle; PLACES], k: usize, e: OnNoteWave) -> Kept
+    requires { ⌜ okLent track cycles ≡ true ⌝ }
+    ensures { λ r. ⌜ r ≡ placed track cycles waveRoom (withWave e) (cleared track cycles k) ⌝ }
 {
-    if free.code != 0 {
-        return free;
-    }
-    let mut left = free.track;
-    let table = left.waves;
-    if PLACES <= table.count {
+    let waves = take_wave(track.waves, k);
+    if PLACES <= waves.count {
         return Kept {
             code: 6,
             track: track,
             cycles: cycles,
         };
     }
-    left.waves = put_wave(table, e);
-    let items = free.cycles;
-    Kept {
-        code: 0,
-        track: left,
-        cycles: items,
-    }
+    let own = cycles_of(track, cycles);
+    with_tables(
+        track,
+        take_note(track.notes, k),
+        put_wave(waves, e),
+        take_sine(track.sines, k),
+        take_cycle(own, k),
+    )
 }
 
 // Reserves a curve for each note of a target: low, high and length by threes, used as it is (`NORMAL`), stretched to the note
@@ -220,33 +247,39 @@ pub fn set_on_note_wave(
         mode: mode,
         values: values,
     };
-    let free = freed(track, size, cycles, target, listed.code == 0, wave_ok(e));
-    put_in_waves(track, cycles, free, e)
+    let code = asked(track, size, cycles, target, listed.code == 0, wave_ok(e));
+    if code != 0 {
+        return Kept {
+            code: code,
+            track: track,
+            cycles: cycles,
+        };
+    }
+    let k = key_of(target);
+    put_in_waves(track, cycles, k, e)
 }
 
 // The same with a sine.
-fn put_in_sines(track: Track, cycles: [Cycle; PLACES], free: Kept, e: OnNoteSine) -> Kept
-    ensures { λ r. ⌜ r ≡ placed track cycles sineRoom (withSine e) free ⌝ }
+fn put_in_sines(track: Track, cycles: [Cycle; PLACES], k: usize, e: OnNoteSine) -> Kept
+    requires { ⌜ okLent track cycles ≡ true ⌝ }
+    ensures { λ r. ⌜ r ≡ placed track cycles sineRoom (withSine e) (cleared track cycles k) ⌝ }
 {
-    if free.code != 0 {
-        return free;
-    }
-    let mut left = free.track;
-    let table = left.sines;
-    if PLACES <= table.count {
+    let sines = take_sine(track.sines, k);
+    if PLACES <= sines.count {
         return Kept {
             code: 6,
             track: track,
             cycles: cycles,
         };
     }
-    left.sines = put_sine(table, e);
-    let items = free.cycles;
-    Kept {
-        code: 0,
-        track: left,
-        cycles: items,
-    }
+    let own = cycles_of(track, cycles);
+    with_tables(
+        track,
+        take_note(track.notes, k),
+        take_wave(track.waves, k),
+        put_sine(sines, e),
+        take_cycle(own, k),
+    )
 }
 
 // Reserves a sine for each note of a target, which the sine has to name. Refuses 1, 2, 4, 6.
@@ -262,35 +295,49 @@ pub fn set_on_note_sine(
     let a = sine_ok(sine);
     let named = key_of(sine.target);
     let k = key_of(target);
-    let free = freed(track, size, cycles, target, true, a & (named == k));
-    put_in_sines(track, cycles, free, sine)
+    let code = asked(track, size, cycles, target, true, a & (named == k));
+    if code != 0 {
+        return Kept {
+            code: code,
+            track: track,
+            cycles: cycles,
+        };
+    }
+    put_in_sines(track, cycles, k, sine)
 }
 
-// The same with a cycle, which stands in the lent table.
-fn put_in_cycles(track: Track, cycles: [Cycle; PLACES], free: Kept, e: Cycle) -> Kept
-    ensures { λ r. ⌜ r ≡ placed track cycles cycleRoom (withCycle e) free ⌝ }
+// The cycles with one more, but where the call only removes.
+fn cycles_with(free: CycleTable, e: Cycle, gone: bool) -> CycleTable
+    requires { ⌜ (gone ≡ false → free .count < places) ⌝ }
+    ensures { λ r. ⌜ r ≡ cond gone free (cyclesWith free e) ⌝ }
 {
-    if free.code != 0 {
+    if gone {
         return free;
     }
-    let mut left = free.track;
-    let items = free.cycles;
-    let table = cycles_of(left, items);
-    if PLACES <= table.count {
+    put_cycle(free, e)
+}
+
+// The same with a cycle, which stands in the lent table; with `gone` the old entries go and none is put.
+fn put_in_cycles(track: Track, cycles: [Cycle; PLACES], k: usize, e: Cycle, gone: bool) -> Kept
+    requires { ⌜ okLent track cycles ≡ true ⌝ }
+    ensures { λ r. ⌜ r ≡ placed track cycles (λ (f : Kept). gone || cycleRoom f) (λ (f : Kept). cond gone f (withCycle e f)) (cleared track cycles k) ⌝ }
+{
+    let own = cycles_of(track, cycles);
+    let free = take_cycle(own, k);
+    if !gone & (PLACES <= free.count) {
         return Kept {
             code: 6,
             track: track,
             cycles: cycles,
         };
     }
-    let after = put_cycle(table, e);
-    left.cycles = after.count;
-    let more = after.items;
-    Kept {
-        code: 0,
-        track: left,
-        cycles: more,
-    }
+    with_tables(
+        track,
+        take_note(track.notes, k),
+        take_wave(track.waves, k),
+        take_sine(track.sines, k),
+        cycles_with(free, e, gone),
+    )
 }
 
 // Reserves a target's values at every `length` of time, from the track's time on; with a length of 0 or less, or no values,
@@ -309,11 +356,16 @@ pub fn set_on_cycle(
     let values = listed.list;
     let a = is_length(length);
     let b = numbers_ok(values);
-    let free = freed(track, size, cycles, target, listed.code == 0, a & b);
-    let empty = values.count == 0;
-    if (length <= 0) | empty {
-        return free;
+    let code = asked(track, size, cycles, target, listed.code == 0, a & b);
+    if code != 0 {
+        return Kept {
+            code: code,
+            track: track,
+            cycles: cycles,
+        };
     }
+    let k = key_of(target);
+    let empty = values.count == 0;
     let e = Cycle {
         target: target,
         length: length,
@@ -321,7 +373,7 @@ pub fn set_on_cycle(
         index: 0,
         values: values,
     };
-    put_in_cycles(track, cycles, free, e)
+    put_in_cycles(track, cycles, k, e, (length <= 0) | empty)
 }
 
 // The older calls. `remove_reserve` of a controller. Refuses 1, 2, 4.

@@ -1,9 +1,10 @@
 -- What the test of a track with its cycle table says of its parts, and back.
 --     lent-track, lent-cycles, lent-lone   the parts; lent-counted: the table alone
 --     lent-whole                           all of them make a pair that passes
+--     untracked, tracked, behind           a test of the pair among others, the track asked first
 --     notes-few .. cycles-few              no table counts more than its places
-use mathlib.Core.Path.{_≡_}
-use mathlib.Core.Bool.{Bool, true, _&&_}
+use mathlib.Core.Path.{_≡_, refl, ap, _∙_}
+use mathlib.Core.Bool.{Bool, true, false, _&&_}
 use mathlib.Core.List.{List}
 use Prim.Native.Nat.{_≤_}
 use Rattle.laws.specs.Lists.{counted}
@@ -25,6 +26,36 @@ module _ (a : Track) (cs : List Cycle) where
   pub lent-whole : okTrack a ≡ true → okCycles (cyclesOf a cs) ≡ true → lone (a .notes) (a .waves) (a .sines) (cyclesOf a cs) ≡ true → okLent a cs ≡ true
   unfolding okLent
   lent-whole t c l = rw (t, c, l)
+
+  not-lent : okTrack a ≡ false → okLent a cs ≡ false
+  unfolding okLent
+  not-lent t = rw t
+
+  rest : okTrack a ≡ true → okLent a cs ≡ (okCycles (cyclesOf a cs) && alone)
+  unfolding okLent
+  rest t = rw t
+
+  module _ (x y : Bool) where
+    pub untracked : (x && okTrack a && y) ≡ false → (x && okLent a cs && y) ≡ false
+    untracked e = go x (okTrack a) (okLent a cs) not-lent e
+      where
+        go : (u t l : Bool) → (t ≡ false → l ≡ false) → (u && t && y) ≡ false → (u && l && y) ≡ false
+        go false t l h e = refl
+        go true false l h e = rw (h refl)
+        go true true false h e = refl
+        go true true true h e = e
+
+    module _ (e : (x && okTrack a && y) ≡ true) where
+      pub tracked : okTrack a ≡ true
+      tracked = right x (okTrack a) (left (x && okTrack a) y e)
+
+      -- what is left to ask
+      pub behind : (x && okLent a cs && y) ≡ (okCycles (cyclesOf a cs) && lone (a .notes) (a .waves) (a .sines) (cyclesOf a cs))
+      behind = ap (λ (l : Bool). x && l && y) (rest tracked) ∙ go (okCycles (cyclesOf a cs) && alone)
+        where
+          go : (r : Bool) → (x && r && y) ≡ r
+          go true = rw (left x (okTrack a) (left (x && okTrack a) y e), right (x && okTrack a) y e)
+          go false = rw (left x (okTrack a) (left (x && okTrack a) y e))
 
   module _ (e : okLent a cs ≡ true) where
     two : (okTrack a && okCycles (cyclesOf a cs)) ≡ true

@@ -2,9 +2,13 @@
 // the cycles, whose table the caller lends; the track only counts how many records of that table are used. A call that
 // refuses hands back the track that it was given.
 ghost use mathlib.Core.Path.{_≡_};
+ghost use mathlib.Core.Bool.{_&&_};
+ghost use Prim.Native.Nat.{_≤_};
+ghost use Rattle.numbers.specs.Limits.{places};
 ghost use Rattle.layers.specs.Layers.{okLayers};
+ghost use Rattle.tables.specs.Tables.{okCycles, lone};
 ghost use Rattle.state.specs.Track.{noNotes, noWaves, noSines, noCycles, newTrack, cyclesOf};
-ghost use Rattle.state.specs.Tests.{playable, okParams, okOptions, okTables, okTrack, okLent};
+ghost use Rattle.state.specs.Tests.{playable, okParams, okOptions, okTables, okTrack};
 ghost use Rattle.state.specs.Calls.{onChannel, newOf, setTimepos, setChannel, setCcFreq, setPbFreq};
 use cycles::Cycle;
 pub use cycles::OPTIONS;
@@ -227,19 +231,17 @@ pub fn cycles_of(track: Track, cycles: [Cycle; PLACES]) -> CycleTable
     }
 }
 
-// Whether a track and the cycle table that is lent with it may be used: each passes its test, and no target has two
-// reservations over all four kinds.
-pub fn lent_ok(track: Track, cycles: [Cycle; PLACES]) -> bool
-    ensures { λ r. ⌜ r ≡ okLent track cycles ⌝ }
+// What a call asks of a track's tables and its cycles, once the track has passed its own test: each cycle may be stored, and no target
+// has two reservations over all four kinds. It is handed the tables and not the track: handed the track, the compiled code would copy it
+// once more.
+pub fn lent_alone(notes: NoteTable, waves: WaveTable, sines: SineTable, own: CycleTable) -> bool
+    requires { ⌜ (notes .count ≤ places) × (waves .count ≤ places) × (sines .count ≤ places) ⌝ }
+    ensures { λ r. ⌜ r ≡ okCycles own && lone notes waves sines own ⌝ }
 {
-    if !track_ok(track) {
-        return false;
-    }
-    let own = cycles_of(track, cycles);
     if !cycles_ok(own) {
         return false;
     }
-    lone_ok(track.notes, track.waves, track.sines, own)
+    lone_ok(notes, waves, sines, own)
 }
 
 // A channel for a new track: 0 to 15, whatever is asked.

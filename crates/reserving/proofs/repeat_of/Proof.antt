@@ -13,11 +13,11 @@ key-of-requires c κs = search needs
 mul-option : tie.Need-mul-option
 mul-option c = omega (arith, c .key-of .ensures)
 
-element-copy-out-option : tie.Need-element-copy-out-option
-element-copy-out-option c = omega (arith, c .key-of .ensures)
+array-copy-out-option : tie.Need-array-copy-out-option
+array-copy-out-option c = omega (arith, c .key-of .ensures)
 
 returns : tie.Need-returns
 returns c = rw (c .before .key-of .ensures ∙ ap key (toZ-ofZ (c .before .before .fits .target)))
 
 pub repeat-of-spec : {M : Type 1} → statement M
-repeat-of-spec = tie.close (tie.spec key-of-requires mul-option element-copy-out-option returns)
+repeat-of-spec = tie.close (tie.spec key-of-requires mul-option array-copy-out-option returns)

@@ -1,6 +1,6 @@
--- `set_on_cycle`: the first step alone, or both, with a cycle (Settling).
+-- `set_on_cycle`: both ends, with a cycle or none (Settling).
 use mathlib.Core.Path.{_≡_, sym, ap, _∙_}
-use mathlib.Core.Bool.{Bool, true, false, cond, _&&_, _||_}
+use mathlib.Core.Bool.{Bool, true, cond, _&&_, _||_}
 use borrow.Author.Needs.{needs, sfits-of}
 use lib.Dec.{eqb}
 use mir.Syntax.{w32, w64}
@@ -12,50 +12,52 @@ use Rattle.counted.specs.declared.Numbers.{Numbers}
 use Rattle.counted.specs.declared.Listed.{Listed}
 use Rattle.counted.specs.Numbers.{okNumbers}
 use Rattle.cycles.specs.declared.Cycle.{Cycle}
+use Rattle.cycles.specs.Due.{key}
 use Rattle.reserving.specs.declared.Kept.{Kept}
 use Rattle.reserving.specs.Setting.{cycleOf, cycleRoom, withCycle, onlyRemoves, setOnCycle}
-use Rattle.reserving.specs.Clearing.{reserving}
-use Rattle.reserving.proofs.Settling.{settled, listed}
+use Rattle.reserving.specs.Clearing.{refusal, reserving}
+use Rattle.reserving.proofs.Refusing.{usable}
+use Rattle.reserving.proofs.Settling.{relisted, turned-away, settled}
 use Rattle.reserving.proofs.set_on_cycle.Statement.{statement}
 use Rattle.reserving.proofs.set_on_cycle.Tie as tie
 
-module _ (d : tie.After-freed) where
+module _ (d : tie.After-asked) where
   abbrev l : tie.After-numbers-of
   l = d .before .before .before .before .before
 
   abbrev s : tie.Start
   s = l .before
 
-  abbrev v : Numbers
-  v = l .numbers-of .result .list
+  abbrev v : Listed
+  v = l .numbers-of .result
 
   abbrev ok : Numbers → Bool
   ok x = isLength (s .args .length) && okNumbers x
 
+  abbrev gone : Numbers → Bool
+  gone x = onlyRemoves (s .args .length) x
+
   abbrev made : Numbers → Cycle
   made x = cycleOf (s .args .target) (s .args .length) (s .args .track .timepos) x
 
-  -- what is left, by whether the call only removes
-  abbrev by : Listed → Bool → Kept
-  by x gone =
-      reserving (s .args .track) (s .args .size) (s .args .cycles) (s .args .target) (eqb (x .code) 0) (ok (x .list))
-      (λ (f : Kept). gone || cycleRoom f) (λ (f : Kept). cond gone f (withCycle (made (x .list)) f))
+  abbrev room : Numbers → Kept → Bool
+  room x f = gone x || cycleRoom f
 
-  first : d .freed .result ≡ by (l .numbers-of .result) true
-  first =
+  abbrev put : Numbers → Kept → Kept
+  put x f = cond (gone x) f (withCycle (made x) f)
+
+  code-is : d .asked .result ≡ refusal (s .args .track) (s .args .size) (s .args .cycles) (s .args .target) (eqb (v .code) 0) (ok (v .list)) true
+  code-is =
       let n = d .before .before in
       let m = n .before in
-      let tested : (m .is-length .result && n .numbers-ok .result) ≡ ok v =
+      let tested : (m .is-length .result && n .numbers-ok .result) ≡ ok (v .list) =
       both (is-at w32 isLength (s .fits .length .sfits) (m .is-length .ensures)) (n .numbers-ok .ensures) in
-      rw (toZ-ofZ (s .fits .target), tested) at (d .freed .ensures)
+      rw (toZ-ofZ (s .fits .target), tested) at (d .asked .ensures)
 
-  whole : by (l .numbers-of .result) (onlyRemoves (s .args .length) v) ≡ setOnCycle (s .args .track) (s .args .size) (s .args .cycles) (s .args .target) (s .args .length) (s .args .list .now)
+  whole : reserving (s .args .track) (s .args .size) (s .args .cycles) (s .args .target) (eqb (v .code) 0) (ok (v .list)) (room (v .list)) (put (v .list))
+      ≡ setOnCycle (s .args .track) (s .args .size) (s .args .cycles) (s .args .target) (s .args .length) (s .args .list .now)
   unfolding setOnCycle
-  whole =
-      let gone : Numbers → Bool = λ (x : Numbers). onlyRemoves (s .args .length) x in
-      ap (λ (x : Listed). by x (gone (x .list))) (l .numbers-of .ensures)
-      ∙ listed (s .args .track) (s .args .size) (s .args .cycles) (s .args .target) (s .args .list .now) ok
-      (λ (x : Numbers) (f : Kept). gone x || cycleRoom f) (λ (x : Numbers) (f : Kept). cond (gone x) f (withCycle (made x) f))
+  whole = relisted (s .args .track) (s .args .size) (s .args .cycles) (s .args .target) (s .args .list .now) ok room put (l .numbers-of .ensures)
 
 numbers-of-requires : tie.Need-numbers-of-requires
 numbers-of-requires c κs = search needs
@@ -66,28 +68,31 @@ is-length-requires c κs = search needs
 numbers-ok-requires : tie.Need-numbers-ok-requires
 numbers-ok-requires c κs = search needs
 
-freed-requires : tie.Need-freed-requires
-freed-requires c κs = search needs
+asked-requires : tie.Need-asked-requires
+asked-requires c κs = search needs
 
 returns : tie.Need-returns
 returns c =
-    let d = c .before .before in
-    let gone : onlyRemoves (s d .args .length) (v d) ≡ true = rw (toZ-ofZ (s d .fits .length)) at (c .if1 .taken) in
-    first d ∙ ap (by d (l d .numbers-of .result)) (sym gone) ∙ whole d
+    let d = c .before in
+    let a = s d .args in
+    turned-away (a .track) (a .size) (a .cycles) (a .target) _ _ (room d (v d .list)) (put d (v d .list)) (code-is d) (c .if1 .taken) ∙ whole d
+
+key-of-requires : tie.Need-key-of-requires
+key-of-requires c κs = search needs
 
 put-in-cycles-requires : tie.Need-put-in-cycles-requires
-put-in-cycles-requires c κs = search needs
+put-in-cycles-requires c κs = let k = c .before .before in let d = k .before .before in usable _ _ _ _ _ _ _ (sym (code-is d) ∙ k .before .if1 .left)
 
 returns-2 : tie.Need-returns-2
 returns-2 c =
     let t = c .before in
-    let d = t .before .before .before in
+    let k = t .before .before in
+    let d = k .before .before in
     let a = s d .args in
-    let gone : onlyRemoves (a .length) (v d) ≡ false = rw (toZ-ofZ (s d .fits .length)) at (t .before .if1 .left) in
     let f : SFits w64 (a .track .timepos) = sfits-of (t .struct-told .given .1 .0 .1) in
-    settled (a .track) (a .size) (a .cycles) (a .target) _ _ cycleRoom (withCycle (made d (v d)))
-    (rw (toZ-ofZ (s d .fits .target), toZ-ofZ (s d .fits .length), toZ-ofZ f) at (c .put-in-cycles .ensures)) (first d)
-    ∙ ap (by d (l d .numbers-of .result)) (sym gone)
+    let z = toZ-ofZ (s d .fits .target) in
+    settled (a .track) (a .size) (a .cycles) (a .target) _ _ (room d (v d .list)) (put d (v d .list)) (code-is d) (k .before .if1 .left)
+    (rw (z, toZ-ofZ (s d .fits .length), toZ-ofZ f, k .key-of .ensures ∙ ap key z) at (c .put-in-cycles .ensures))
     ∙ whole d
 
 pub set-on-cycle-spec : {M : Type 1} → statement M
@@ -97,7 +102,8 @@ set-on-cycle-spec =
     numbers-of-requires
     is-length-requires
     numbers-ok-requires
-    freed-requires
+    asked-requires
     returns
+    key-of-requires
     put-in-cycles-requires
     returns-2)
