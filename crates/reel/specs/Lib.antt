@@ -2,3 +2,4 @@ pub mod Limits
 pub mod Marks
 pub mod Numbers
 pub mod Records
+pub mod Places

@@ -1,5 +1,6 @@
 -- 01, "The tape program": what stands at a place of a tape. "Inside a record, numbers missing before the list give 8, then
--- 2 and 3 are asked, then a short list gives 8, then the call's own numbers."
+-- 2 and 3 are asked, then a short list gives 8, then the call's own numbers." How many numbers a list may have comes first
+-- in the definitions ..By; those that the code is held to are these at `listLimit`.
 use mathlib.Core.Bool.{Bool, cond}
 use mathlib.Core.List.{List}
 use Prim.Native.Nat.{ℕ, _+_, _*_, _-_}
@@ -33,21 +34,30 @@ secondAt s p m = cond (ltb 1 (widthOf m)) (numberAt s (p + 6)) (pos 0)
 unfoldable pub lastAt : List ℕ → ℕ → Mark → ℤ
 lastAt s p m = numberAt s (p + 2 + 4 * (widthOf m - 1))
 
--- "n outside 0..96 gives 3"
-unfoldable pub isCount : ℤ → Bool
-isCount n = inside (pos 0) (pos listLimit) n
+-- "n outside 0..192 gives 3" (02, c)
+unfoldable pub isCountBy : ℕ → ℤ → Bool
+isCountBy limit n = inside (pos 0) (pos limit) n
+
+abbrev pub isCount : ℤ → Bool
+isCount = isCountBy listLimit
 
 -- a list of n numbers from p on, for a target
-unfoldable pub listFault : List ℕ → ℕ → ℤ → ℤ → ℕ
-listFault s p target n =
-    cond (isTarget target) (cond (isCount n) (cond (leb (p + 4 * cut n) (length s)) 0 8) 3) 2
+unfoldable pub listFaultBy : ℕ → List ℕ → ℕ → ℤ → ℤ → ℕ
+listFaultBy limit s p target n =
+    cond (isTarget target) (cond (isCountBy limit n) (cond (leb (p + 4 * cut n) (length s)) 0 8) 3) 2
+
+abbrev pub listFault : List ℕ → ℕ → ℤ → ℤ → ℕ
+listFault = listFaultBy listLimit
 
 -- the record at p, where so many of TK and MX were read before it
-unfoldable pub fault : List ℕ → ℕ → ℕ → ℕ
-fault s p due =
+unfoldable pub faultBy : ℕ → List ℕ → ℕ → ℕ → ℕ
+faultBy limit s p due =
     cond (isDue due (markAt s p))
-    (cond (hasList (markAt s p)) (listFault s (behind p (markAt s p)) (numberAt s (p + 2)) (lastAt s p (markAt s p))) 0)
+    (cond (hasList (markAt s p)) (listFaultBy limit s (behind p (markAt s p)) (numberAt s (p + 2)) (lastAt s p (markAt s p))) 0)
     8
+
+abbrev pub fault : List ℕ → ℕ → ℕ → ℕ
+fault = faultBy listLimit
 
 -- how many numbers its list has
 unfoldable pub countAt : List ℕ → ℕ → Mark → ℕ
@@ -68,6 +78,9 @@ sound s p m n =
 abbrev pub unsound : ℕ → ℕ → Record
 unsound code p = record { code = code; mark = Unknown; x = pos 0; y = pos 0; list = none; next = p }
 
-unfoldable pub recordAt : List ℕ → ℕ → ℕ → Record
-recordAt s p due =
-    cond (eqb (fault s p due) 0) (sound s p (markAt s p) (countAt s p (markAt s p))) (unsound (fault s p due) p)
+unfoldable pub recordBy : ℕ → List ℕ → ℕ → ℕ → Record
+recordBy limit s p due =
+    cond (eqb (faultBy limit s p due) 0) (sound s p (markAt s p) (countAt s p (markAt s p))) (unsound (faultBy limit s p due) p)
+
+abbrev pub recordAt : List ℕ → ℕ → ℕ → Record
+recordAt = recordBy listLimit

@@ -9,10 +9,11 @@ use native.Mathlib.Omega.{arith}
 use lib.IntN.{ℤ}
 use lib.ListN.{length}
 use borrow.Author.Tests.{lt-ltb, le-ltb}
+use Rattle.numbers.specs.Limits.{listLimit}
 use Rattle.reel.specs.Limits.{tapeLimit}
 use Rattle.lines.specs.Lines.{endText}
 use Rattle.spool.specs.declared.Run.{Run}
-use Rattle.spool.specs.Play.{Pass, pass, begun, refused, stepOf, playFrom, ended, playOf, endingOf, printed}
+use Rattle.spool.specs.Play.{Pass, pass, begun, refused, stepOf, playFromBy, playFrom, ended, playBy, playOf, endingOf, printedBy, printed}
 use Rattle.spool.proofs.Steps.{moves}
 
 pub record Going (s : List ℕ) (start now : Pass) : Type 0 where
@@ -23,14 +24,14 @@ pub record Going (s : List ℕ) (start now : Pass) : Type 0 where
   pub long : length (now .events) ≡ length (start .events)
 
 one-less : (s : List ℕ) (n : ℕ) (p : Pass) → length s ≤ n + p .run .at → p .run .at < length s → playFrom n s p ≡ playFrom (n - 1) s (stepOf s (p .run) (p .events))
-unfolding playFrom
+unfolding playFromBy
 one-less s zero p h l = absurd (omega arith)
 one-less s (suc n) p h l = let e : suc n - 1 ≡ n = omega arith in rw (e, lt-ltb _ _ l)
 
-none-left : (s : List ℕ) (n : ℕ) (p : Pass) → length s ≤ p .run .at → playFrom n s p ≡ p
-unfolding playFrom
-none-left s zero p h = refl
-none-left s (suc n) p h = rw (le-ltb _ _ h)
+pub none-left : (limit : ℕ) (s : List ℕ) (n : ℕ) (p : Pass) → length s ≤ p .run .at → playFromBy limit n s p ≡ p
+unfolding playFromBy
+none-left limit s zero p h = refl
+none-left limit s (suc n) p h = rw (le-ltb _ _ h)
 
 module _ (s : List ℕ) (start : Pass) where
   pub going-start : start .run .index ≤ start .run .at → Going s start start
@@ -48,19 +49,19 @@ module _ (s : List ℕ) (start : Pass) where
       }
 
   pub going-end : (p : Pass) → Going s start p → length s ≤ p .run .at → p ≡ playFrom (length s) s start
-  going-end p g h = sym (none-left s (g .left) p h) ∙ g .same
+  going-end p g h = sym (none-left listLimit s (g .left) p h) ∙ g .same
 
 module _ (s : List ℕ) (l : List ℤ) where
   pub too-long : tapeLimit < length s → pass (refused begun 8 (length s)) l ≡ playOf s l
-  unfolding playOf
+  unfolding playBy
   too-long h = rw (lt-ltb _ _ h)
 
   pub played : length s ≤ tapeLimit → playFrom (length s) s (pass begun l) ≡ playOf s l
-  unfolding playOf
+  unfolding playBy
   played h = rw (le-ltb _ _ h)
 
 -- what is printed, from how the run ended and what the list then holds
 pub printed-by : (s : List ℕ) (l : List ℤ) (page : List ℕ) {a : Run} {e : List ℤ} → a ≡ ended (length s) (playOf s l .run) → e ≡ playOf s l .events
     → endText (endingOf a) e page ≡ printed s l page
-unfolding printed
+unfolding printedBy
 printed-by s l page p q = rw (p, q)

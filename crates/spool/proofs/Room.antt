@@ -38,7 +38,7 @@ use Rattle.carrying.specs.declared.State.{State}
 use Rattle.carrying.specs.declared.Carried.{Carried}
 use Rattle.carrying.specs.Carry.{makeTrack, makeBudget, moveTo, setFreqs, curveOf, setCycle, turnAnswer, turnList, Left, carriedAs, carried}
 use Rattle.spool.specs.declared.Run.{Run}
-use Rattle.spool.specs.Play.{Pass, pass, blankState, begun, refused, past, afterCall, stepOf, playFrom, ended, playOf, printed}
+use Rattle.spool.specs.Play.{Pass, pass, blankState, begun, refused, past, afterCall, stepBy, stepOf, playFromBy, playFrom, ended, playBy, playOf, printedBy, printed}
 
 -- a list of n records, so many of which are events
 pub record Holds (n count : ℕ) (l : List ℤ) : Type 0 where
@@ -109,7 +109,7 @@ module _ (n : ℕ) where
   either false x y p q = q
 
   step-holds : (s : List ℕ) (a : Run) (l : List ℤ) → In (pass a l) → In (stepOf s a l)
-  unfolding stepOf
+  unfolding stepBy
   step-holds s a l h =
       let r = recordAt s (a .at) (a .due) in
       let k = carried-holds (r .mark) (a .state) r l h in
@@ -120,7 +120,7 @@ module _ (n : ℕ) where
       h
 
   from-holds : (left : ℕ) (s : List ℕ) (p : Pass) → In p → In (playFrom left s p)
-  unfolding playFrom
+  unfolding playFromBy
   from-holds zero s p h = h
   from-holds (suc left) s p h =
       either (ltb (p .run .at) (length s)) (playFrom left s (stepOf s (p .run) (p .events))) p
@@ -148,7 +148,7 @@ module _ (s : List ℕ) (l : List ℤ) where
   begun-holds = record { few = omega arith; records = refl }
 
   played : Holds (length (rowsOf l)) (playOf s l .run .state .count) (playOf s l .events)
-  unfolding playOf
+  unfolding playBy
   played =
       either (length (rowsOf l)) (ltb tapeLimit (length s)) (pass (refused begun 8 (length s)) l) (playFrom (length s) s (pass begun l)) begun-holds
       (from-holds (length (rowsOf l)) (length s) s (pass begun l) begun-holds)
@@ -182,7 +182,7 @@ module _ (s : List ℕ) (l : List ℤ) where
       -- the whole text: of the refusal, or of the events
       pub whole : printed s l page
           ≡ cond (eqb (over .code) 0) (doneText (over .state .count) (over .state .budget) (eventsOf (playOf s l .events) (over .state .count))) (refusalText (over .code) (over .index))
-      unfolding printed endText
+      unfolding printedBy endText
       whole = ap (λ (t : Bool). cond t (cond (eqb (over .code) 0) (doneText (over .state .count) (over .state .budget) (eventsOf (playOf s l .events) (over .state .count))) (refusalText (over .code) (over .index))) []) fine
 
       pub some : 0 < length (printed s l page)

@@ -23,7 +23,8 @@ use Rattle.state.specs.declared.TrackAnswer.{TrackAnswer}
 use Rattle.state.specs.Track.{newTrack, noCycles}
 use Rattle.state.specs.Calls.{newOf, answered}
 use Rattle.reel.specs.declared.records.Record.{Record}
-use Rattle.reel.specs.Records.{behind, markAt, countAt, fault, recordAt}
+use Rattle.reel.specs.Records.{behind, markAt, countAt, recordBy, recordAt}
+use Rattle.reel.specs.Places.{moreDue}
 use Rattle.reel.proofs.Listing.{length-numbers}
 use Rattle.reel.proofs.Reading.{Fits, fault-none}
 use Rattle.reel.proofs.Reaching.{read-none, record-next}
@@ -31,7 +32,7 @@ use Rattle.carrying.specs.declared.State.{State}
 use Rattle.carrying.specs.declared.Carried.{Carried}
 use Rattle.carrying.specs.Carry.{Left, left, carried, stateOf}
 use Rattle.spool.specs.declared.Run.{Run}
-use Rattle.spool.specs.Play.{blankState, begun, refused, moreDue, past, Pass, pass, afterCall, afterRecord, stepOf, ended}
+use Rattle.spool.specs.Play.{blankState, begun, refused, past, Pass, pass, afterCall, afterRecord, stepBy, stepOf, ended}
 
 pub parts : {a : Run} {l : List ℤ} {p : Pass} → pass a l ≡ p → (a ≡ p .run) × (l ≡ p .events)
 parts h = (ap (λ (q : Pass). q .run) h, ap (λ (q : Pass). q .events) h)
@@ -47,16 +48,16 @@ pub left-by : {k : Carried} {x : List ℤ} {t : Left} → k ≡ t .done → x �
 left-by h k = rw (h, k)
 
 pub record-few : (s : List ℕ) (p due : ℕ) → recordAt s p due .code ≡ 0 → recordAt s p due .list .count ≤ listLimit
-unfolding recordAt
+unfolding recordBy
 record-few s p due h =
-    let z = read-none s p due h in
-    let f = fault-none s p due z in
+    let z = read-none listLimit s p due h in
+    let f = fault-none listLimit s p due z in
     let m = markAt s p in
     rw (eq-eqb _ _ z) (omega (arith, f .few, length-numbers s (behind p m) (countAt s p m)))
 
 module _ (s : List ℕ) (a : Run) (l : List ℤ) (r : Record) (e : r ≡ recordAt s (a .at) (a .due)) where
   opened : afterRecord s a l r ≡ stepOf s a l
-  unfolding stepOf
+  unfolding stepBy
   opened = ap (afterRecord s a l) e
 
   pub unread : (r .code ≡ 0 → ⊥) → pass (refused a (r .code) (length s)) l ≡ stepOf s a l
@@ -106,7 +107,7 @@ pub complete : (end : ℕ) (a : Run) → (eqb (a .code) 0 && ltb (a .due) 2) ≡
 complete end a h = rw h
 
 -- what holds of both of a choice holds of the choice
-of-both : (P : Pass → Type 0) (b : Bool) (x y : Pass) → (b ≡ true → P x) → P y → P (cond b x y)
+pub of-both : (P : Pass → Type 0) (b : Bool) (x y : Pass) → (b ≡ true → P x) → P y → P (cond b x y)
 of-both P true x y f g = f refl
 of-both P false x y f g = g
 
@@ -121,10 +122,10 @@ module _ (s : List ℕ) (a : Run) (l : List ℤ) (h : a .at < length s) where
   K = carried (a .state) R l
 
   pub moves : On (stepOf s a l)
-  unfolding stepOf
+  unfolding stepBy
   moves =
       of-both On (eqb (R .code) 0) (afterCall s a R K) (pass (refused a (R .code) (length s)) l)
       (λ z. of-both On (eqb (K .done .code) 0) (pass (past a (R .next) (K .done .state)) (K .events)) (pass (refused a (K .done .code) (length s)) (K .events))
-      (λ _. (let n = record-next s (a .at) (a .due) (eqb-true _ _ z) in omega (arith, n .0), omega arith))
+      (λ _. (let n = record-next listLimit s (a .at) (a .due) (eqb-true _ _ z) in omega (arith, n .0), omega arith))
       (h, omega arith))
       (h, omega arith)

@@ -1,5 +1,5 @@
 use Rattle.numbers.proofs.Tested.{read-back}
-use Rattle.reel.specs.Records.{isCount}
+use Rattle.reel.specs.Records.{isCountBy, isCount}
 use borrow.Author.Needs.{needs}
 use Rattle.reel.proofs.numerals.is_count.Statement.{statement}
 use Rattle.reel.proofs.numerals.is_count.Tie as tie
@@ -11,7 +11,7 @@ within-i32-requires : tie.Need-within-i32-requires
 within-i32-requires c κs = search needs
 
 returns : tie.Need-returns
-unfolding isCount
+unfolding isCountBy
 returns c = read-back isCount (c .before .fits .n) (c .within-i32 .ensures)
 
 pub is-count-spec : {M : Type 1} → statement M

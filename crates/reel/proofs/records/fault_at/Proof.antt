@@ -34,7 +34,7 @@ is-due-requires c κs = search needs
 returns : tie.Need-returns
 returns c =
     let s = c .before .before .before in
-    not-due (now (s .args .tape)) (s .args .at) (s .args .due) (s .args .mark) (s .pre) (no (c .before .is-due .ensures) (c .if1 .taken))
+    not-due _ (now (s .args .tape)) (s .args .at) (s .args .due) (s .args .mark) (s .pre) (no (c .before .is-due .ensures) (c .if1 .taken))
 
 has-list-requires : tie.Need-has-list-requires
 has-list-requires c κs = search needs
@@ -42,7 +42,7 @@ has-list-requires c κs = search needs
 returns-2 : tie.Need-returns-2
 returns-2 c =
     let s = c .before .before .before .before .before in
-    no-list (now (s .args .tape)) (s .args .at) (s .args .due) (s .args .mark) (s .pre) (yes (c .before .before .before .is-due .ensures) (c .before .before .if1 .left))
+    no-list _ (now (s .args .tape)) (s .args .at) (s .args .due) (s .args .mark) (s .pre) (yes (c .before .before .before .is-due .ensures) (c .before .before .if1 .left))
     (no (c .before .has-list .ensures) (c .if2 .taken))
 
 add-p : tie.Need-add-p
@@ -75,7 +75,7 @@ returns-3 c =
     let s = e .before .before .before .before .before in
     let w = c .before .before .before .width-of .ensures .0 in
     c .list-fault .ensures
-    ∙ asked-list (now (s .args .tape)) (s .args .at) (s .args .due) (s .args .mark) (s .pre) (due e) (listed e)
+    ∙ asked-list _ (now (s .args .tape)) (s .args .at) (s .args .due) (s .args .mark) (s .pre) (due e) (listed e)
     (ap (λ (n : ℕ). s .args .at + 2 + 4 * n) w)
     (toZ-ofZ {w = w32} (sfits-of (c .before .before .number-at .ok)) ∙ c .before .before .number-at .ensures)
     (toZ-ofZ {w = w32} (sfits-of (c .before .last-at .ok)) ∙ c .before .last-at .ensures)

@@ -26,14 +26,14 @@ module _ (c : tie.After-count-of) where
   counted = c .count-of .ensures ∙ ap cut (toZ-ofZ (c .before .before .before .before .before .before .fits .n))
 
   few : c .count-of .result ≤ listLimit
-  few = omega (arith, counted, count-few (c .before .before .before .before .before .before .args .n) counts)
+  few = omega (arith, counted, count-few listLimit (c .before .before .before .before .before .before .args .n) counts)
 
 is-target-requires : tie.Need-is-target-requires
 is-target-requires c κs = search needs
 
 returns : tie.Need-returns
 returns c = let s = c .before .before .before in
-    no-target _ _ _ _ (no-at w32 isTarget (s .fits .target .sfits) (c .before .is-target .ensures) (c .if1 .taken))
+    no-target _ _ _ _ _ (no-at w32 isTarget (s .fits .target .sfits) (c .before .is-target .ensures) (c .if1 .taken))
 
 is-count-requires : tie.Need-is-count-requires
 is-count-requires c κs = search needs
@@ -42,7 +42,7 @@ returns-2 : tie.Need-returns-2
 returns-2 c =
     let s = c .before .before .before .before .before in
     let t = yes-at w32 isTarget (s .fits .target .sfits) (c .before .before .before .is-target .ensures) (c .before .before .if1 .left) in
-    no-count _ _ _ _ t (no-at w32 isCount (s .fits .n .sfits) (c .before .is-count .ensures) (c .if2 .taken))
+    no-count _ _ _ _ _ t (no-at w32 isCount (s .fits .n .sfits) (c .before .is-count .ensures) (c .if2 .taken))
 
 count-of-requires : tie.Need-count-of-requires
 count-of-requires c κs = search needs
@@ -57,13 +57,13 @@ returns-3 : tie.Need-returns-3
 returns-3 c =
     let d = c .before in
     let h = c .if3 .taken in
-    short-list _ _ _ _ (target d) (counts d) (omega (arith, counted d, d .before .before .before .before .before .before .pre))
+    short-list _ _ _ _ _ (target d) (counts d) (omega (arith, counted d, d .before .before .before .before .before .before .pre))
 
 returns-4 : tie.Need-returns-4
 returns-4 c =
     let d = c .before in
     let h = c .if3 .left in
-    whole-list _ _ _ _ (target d) (counts d) (omega (arith, counted d, d .before .before .before .before .before .before .pre))
+    whole-list _ _ _ _ _ (target d) (counts d) (omega (arith, counted d, d .before .before .before .before .before .before .pre))
 
 pub list-fault-spec : {M : Type 1} → statement M
 list-fault-spec =
