@@ -1,3 +1,4 @@
 pub mod Listing
 pub mod Reading
 pub mod Reaching
+pub mod Longer

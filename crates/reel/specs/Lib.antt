@@ -3,3 +3,4 @@ pub mod Marks
 pub mod Numbers
 pub mod Records
 pub mod Places
+pub mod Longer

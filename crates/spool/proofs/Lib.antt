@@ -1,3 +1,4 @@
 pub mod Steps
 pub mod Playing
 pub mod Room
+pub mod Longer
