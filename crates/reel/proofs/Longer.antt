@@ -1,6 +1,7 @@
 -- 02, c). Of two limits the higher takes what the lower takes, and besides it lists of n in lo + 1..hi alone.
 --     past-limit, below-zero     what gives 3, after a good target; a short list within the limit gives 8 (`Reading:short-list`)
 --     once-refused, taken        a record of such an n: refused with 3 at lo, and at hi taken if the bytes are there
+--     none-between               a tape that has no such n has no such record
 --     same-fault, same-record    any other record
 --     as-before                  a tape of other records
 use mathlib.Core.Path.{_≡_, refl, sym, ap, _∙_}
@@ -20,7 +21,7 @@ use Rattle.numbers.specs.Ranges.{isTarget}
 use Rattle.text.specs.Little.{numberAt}
 use Rattle.reel.specs.Marks.{hasList, isDue}
 use Rattle.reel.specs.Records.{behind, markAt, lastAt, isCountBy, listFaultBy, faultBy, recordBy}
-use Rattle.reel.specs.Places.{Place, place, readBy, onward, placesFrom, readingBy}
+use Rattle.reel.specs.Places.{Place, place, readBy, onward, placesFrom, placesBy, readingBy}
 use Rattle.reel.specs.Longer.{between, isThere, onceRefused, isLonger}
 use Rattle.reel.specs.declared.records.Record.{Record}
 use Rattle.reel.proofs.Reading.{no-count, faultFor}
@@ -72,6 +73,15 @@ neither : (a b : Bool) → (a || b) ≡ false → (a ≡ false) × (b ≡ false)
 neither true b h = absurd (true≢false h)
 neither false b h = (refl, h)
 
+fewer : (f g : Place → Bool) (qs : List Place) → any g qs ≡ false → any (λ (q : Place). f q && g q) qs ≡ false
+unfolding any
+fewer f g [] e = refl
+fewer f g (q ∷ qs) e = let h = neither (g q) (any g qs) e in go (f q) (g q) (any (λ (q : Place). f q && g q) qs) (h .0) (fewer f g qs (h .1))
+  where
+    go : (a b c : Bool) → b ≡ false → c ≡ false → ((a && b) || c) ≡ false
+    go true b c d e = rw (d, e)
+    go false b c d e = e
+
 module _ (lo hi : ℕ) where
   inside-hi : (n : ℤ) → inside (pos (lo + 1)) (pos hi) n ≡ true → isCountBy hi n ≡ true
   unfolding inside
@@ -102,6 +112,11 @@ module _ (lo hi : ℕ) where
           code-is hi s p due
               ∙ taken-by (isDue due m) (hasList m) (isTarget (numberAt s (p + 2))) (isCountBy lo n) (isCountBy hi n) (leb (behind p m + 4 * cut n) (length s)) three k,
         )
+
+  -- a tape none of whose records has such an n is none of these
+  pub none-between : (s : List ℕ) → any (λ (q : Place). between lo hi s (q .at)) (placesBy hi s) ≡ false → isLonger lo hi s ≡ false
+  unfolding isLonger
+  none-between s = fewer (λ (q : Place). eqb (faultBy lo s (q .at) (q .due)) 3) (λ (q : Place). between lo hi s (q .at)) (placesBy hi s)
 
   -- of the next n records from q on none was refused for such an n
   abbrev pub Others : List ℕ → ℕ → Place → Type 0
