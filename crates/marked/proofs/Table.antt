@@ -1,6 +1,6 @@
 -- Every marked case holds: each is computed from the definitions that the public contracts cite.
 use Rattle.marked.specs.Marked.{Marked}
-use Rattle.marked.proofs.Drawn.{seeds, bend-0, bend-1, curves}
+use Rattle.marked.proofs.Drawn.{seeds, bend-0, bend-1, curves, lists}
 use Rattle.marked.proofs.Valued as valued
 use Rattle.marked.proofs.Waved.{seven, fifteen}
 use Rattle.marked.proofs.Cycled.{set-is, plenty, scarce}
@@ -24,4 +24,6 @@ table =
       cycle-scarce = scarce;
       cut-plain = cut.both .0;
       cut-full = cut.both .1;
+      list-longest = lists .0;
+      list-too-long = lists .1;
     }

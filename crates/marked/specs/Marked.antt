@@ -2,13 +2,16 @@
 -- every number that the call leaves. What the calls are asked of is in Subjects.
 use mathlib.Core.Path.{_≡_}
 use mathlib.Core.List.{[], _∷_, _++_}
+use Prim.Native.Nat.{_+_}
 use lib.IntN.{pos, negsuc}
 use Rattle.laws.specs.Rows.{flat}
+use Rattle.numbers.specs.Limits.{listLimit}
+use Rattle.budget.specs.Budgets.{unspent}
 use Rattle.eventlist.specs.Rows.{numbersOf}
 use Rattle.cutting.specs.Cuts.{plain, whole}
 use Rattle.drawing.specs.Calls.{pbTarget, Drawn}
 use Rattle.reserving.specs.Clearing.{answer}
-use Rattle.marked.specs.Subjects.{new, room, funds, outcome, control, bend, once, random, swell, halfWay, valued, drawn, threeAndRoom, WaveLeaves, waved, three, two, set, cycling, table, CycleLeaves, cycled, CutLeaves}
+use Rattle.marked.specs.Subjects.{new, room, funds, outcome, control, bend, once, random, swell, halfWay, valued, drawn, threeAndRoom, ones, WaveLeaves, waved, three, two, set, cycling, table, CycleLeaves, cycled, CutLeaves}
 
 pub record Marked : Type 0 where
   -- Seed 1 steps to 270369; value 64, random 10 gives 68.
@@ -47,3 +50,7 @@ pub record Marked : Type 0 where
   pub cut-plain : CutLeaves (plain (pos 10)) (flat numbersOf (control 7 0 100 ∷ control 7 0 90 ∷ []))
   -- Full cut: 90, 100.
   pub cut-full : CutLeaves (whole (pos 10)) (flat numbersOf (control 7 0 90 ∷ control 7 0 100 ∷ []))
+  -- 192 numbers accepted (02, c; a case that the document does not mark),
+  pub list-longest : Drawn (ones listLimit) (outcome 1 (funds 1 80000 8 0)) (numbersOf (control 7 0 1))
+  -- 193 give 3.
+  pub list-too-long : Drawn (ones (listLimit + 1)) (record { code = 3; count = 0; budget = unspent 1 80000 }) (room 1)

@@ -85,6 +85,10 @@ drawn n = onTime new (pos 7) (pos 0 ∷ pos 100 ∷ pos 12 ∷ []) (unspent 1 n)
 abbrev pub threeAndRoom : List ℤ
 threeAndRoom = flat numbersOf (control 7 0 0 ∷ control 7 4 33 ∷ control 7 8 66 ∷ []) ++ room 1
 
+-- ---- a curve of n ones on a new track, over an empty list with room for one: equal values are written once
+abbrev pub ones : ℕ → Draw
+ones n = onTime new (pos 7) (replicate n (pos 1)) (unspent 1 80000) (room 1) 0 0
+
 -- ---- what `write_cc_on_note_wave` promises of its answer r and of the list l, at a note that begins at 0, over an empty list with
 -- room for n
 pub record WaveLeaves (a : Track) (maximum n : ℕ) (r : Outcome) (l : List ℤ) : Type 0 where
