@@ -24,8 +24,11 @@ static unsigned char *stack;
 static void nothing(void) {}
 static void track_new(void) { made = dollavir_track_new(96, 0); code = made.code; }
 static void set_timepos(void) { code = dollavir_set_timepos(&track, 0); }
+static void set_param_on_note(void) { code = dollavir_set_param_on_note(&track, 0, list, 6); }
 static void set_param_on_time(void) { code = dollavir_set_param_on_time(&track, 0, list, 6); }
 static void calc_v_on_note(void) { int32_t value; code = dollavir_calc_v_on_note(&track, 100, &value); }
+static void calc_v_on_time(void) { int32_t value; code = dollavir_calc_v_on_time(&track, 100, &value); }
+static void set_v_sub(void) { code = dollavir_set_v_sub(&track, 3, 1); }
 static void set_v_sub_on_cycle(void) { code = dollavir_set_v_sub_on_cycle(&track, 3, list, 6); }
 static void apply_v_sub(void) { int64_t value; code = dollavir_apply_v_sub(&track, 100, &value); }
 static void get_write_opt(void) { dollavir_write_option option; code = dollavir_get_write_opt(&track, 7, &option); }
@@ -40,6 +43,7 @@ static void set_on_note_sine(void) {
 }
 static void remove_reserve(void) { code = dollavir_remove_reserve(&track, cycles, PLACES, 12); }
 static void remove_cc_on(void) { code = dollavir_remove_cc_on(&track, cycles, PLACES, 12); }
+static void remove_cc_on_note(void) { code = dollavir_remove_cc_on_note(&track, 12); }
 static void set_repeat(void) { code = dollavir_set_repeat(&track, 7, 1); }
 static void set_on_cycle(void) { code = dollavir_set_on_cycle(&track, cycles, PLACES, 1, 24, list, 6); }
 static void write_on_time(void) { code = dollavir_write_on_time(&track, 11, list, 6, &budget, events, ROOM * WIDTH, &count, store, 0); }
@@ -112,8 +116,11 @@ int main(void) {
     static const struct call making[] = {CALL(track_new), {NULL, NULL}};
     static const struct call of_track[] = {
         CALL(set_timepos),
+        CALL(set_param_on_note),
         CALL(set_param_on_time),
         CALL(calc_v_on_note),
+        CALL(calc_v_on_time),
+        CALL(set_v_sub),
         CALL(set_v_sub_on_cycle),
         CALL(apply_v_sub),
         CALL(get_write_opt),
@@ -126,6 +133,7 @@ int main(void) {
         CALL(set_on_note_sine),
         CALL(remove_reserve),
         CALL(remove_cc_on),
+        CALL(remove_cc_on_note),
         CALL(set_on_cycle),
         CALL(write_on_time),
         CALL(write_sine),
