@@ -1,9 +1,7 @@
 -- `put_in_notes`: the old entries go, and then a place is asked for, with a list for notes.
 use mathlib.Core.Path.{_≡_, refl, ap, _∙_}
-use Prim.Native.Nat.{ℕ, _≤_, _<_}
 use borrow.Author.Needs.{needs}
 use borrow.Author.Tests.{le-ltb, lt-ltb}
-use Rattle.numbers.specs.Limits.{places}
 use Rattle.tables.specs.declared.NoteTable.{NoteTable}
 use Rattle.tables.specs.declared.CycleTable.{CycleTable}
 use Rattle.tables.specs.Tables.{notesWithout, notesWith, cyclesWithout}

@@ -1,9 +1,7 @@
 -- `put_in_sines`: the old entries go, and then a place is asked for, with a sine.
 use mathlib.Core.Path.{_≡_, refl, ap, _∙_}
-use Prim.Native.Nat.{ℕ, _≤_, _<_}
 use borrow.Author.Needs.{needs}
 use borrow.Author.Tests.{le-ltb, lt-ltb}
-use Rattle.numbers.specs.Limits.{places}
 use Rattle.tables.specs.declared.SineTable.{SineTable}
 use Rattle.tables.specs.declared.CycleTable.{CycleTable}
 use Rattle.tables.specs.Tables.{sinesWithout, sinesWith, cyclesWithout}
