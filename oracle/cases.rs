@@ -1,4 +1,4 @@
-// Document 01's cases, "Both sides of a line", with request c)'s limit for lists, asked of the original: each is a short script in text, and lines that its last call must print in full mode. And the sines,
+// Document 01's cases, "Both sides of a line", with request c)'s limit for lists, and request a)'s of the full cut, asked of the original: each is a short script in text, and lines that its last call must print in full mode. And the sines,
 // whose values document 01 takes from a table of its own: how far the original's stand from it.
 
 use crate::calls;
@@ -29,6 +29,8 @@ fn ones(count: usize) -> String {
 fn cases() -> Vec<Case> {
     let sixteen: String = (0..16).map(|target| format!("703 {target} 16 1 5; ")).collect();
     let two = "904 2 0 0 7 90 0 0 0; 904 2 10 0 7 100 0 0 0";
+    let first_voice = "904 2 6 3 7 100 0 0 0; 904 5 6 3 41 0 0 0 0; 904 3 7 3 9000 0 0 0 0; 904 2 8 4 10 64 0 0 0";
+    let merged = format!("{first_voice}; 904 2 0 1 7 90 0 0 0; 904 5 0 1 40 0 0 0 0; 904 3 2 2 8192 0 0 0 0");
     vec![
         case("Seed 1 steps to 270369; value 64, random 10 gives 68", "202 1 64 10", &["202 0 68 270369"]),
         case("Seed 0 stays 0; value 64, random 10 gives 59", "202 0 64 10", &["202 0 59 0"]),
@@ -72,6 +74,26 @@ fn cases() -> Vec<Case> {
         ),
         case("CC7=90 at 0, CC7=100 at 10, cut at 10: list order 100, 90", &format!("{two}; 309 10"), &["E 2 2 0 0 7 100 0 0 2 0 0 7 90 0 0"]),
         case("Full cut: 90, 100", &format!("{two}; 310 10"), &["E 2 2 0 0 7 90 0 0 2 0 0 7 100 0 0"]),
+        case(
+            "02, a): CC7=90 at 5 behind CC7=100 at 3, full cut at 10: 90",
+            "904 2 3 0 7 100 0 0 0; 904 2 5 0 7 90 0 0 0; 310 10",
+            &["E 1 2 0 0 7 90 0 0"],
+        ),
+        case(
+            "02, a): a second voice behind the first, full cut at 10: the latest volume, program and bend, on the channel of the latest controller or program",
+            &format!("{merged}; 310 10"),
+            &["E 4 2 0 4 7 100 0 0 2 0 4 10 64 0 0 5 0 4 41 0 0 0 3 0 3 9000 0 0 0"],
+        ),
+        case(
+            "02, a): the same list, cut by list order as in the original",
+            &format!("{merged}; 309 10"),
+            &["E 3 2 0 1 7 90 0 0 2 0 1 10 64 0 0 5 0 1 40 0 0 0"],
+        ),
+        case(
+            "02, a): of equal times the later in the list; a negative latest value unsets and still gives the channel",
+            "904 2 5 0 7 1 0 0 0; 904 2 5 0 7 2 0 0 0; 904 2 4 0 7 3 0 0 0; 904 2 6 5 10 -1 0 0 0; 904 2 1 2 10 64 0 0 0; 310 10",
+            &["E 1 2 0 5 7 2 0 0"],
+        ),
         case("192 numbers accepted", &format!("607 7 {}", ones(LIST_LIMIT)), &["607 0"]),
         case("193 give 3", &format!("607 7 {}", ones(LIST_LIMIT + 1)), &["607 3"]),
         case("96 numbers accepted as before", &format!("607 7 {}", ones(FORMER_LIMIT)), &["607 0"]),

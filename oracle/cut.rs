@@ -1,20 +1,34 @@
-// The full cut, which the original does not have, from its sentence in document 01: as `play_from`, but bends at or after the cut are kept, and the folded events
-// stand first: controllers rising, program, then the last bend before the cut, the event itself at time 0.
+// The full cut, which the original does not have, from its sentences: document 01's, as `play_from`, but bends at or after the cut are kept, and the folded events
+// stand first: controllers rising, program, then a bend, the event itself at time 0; and document 02's, request a), of what counts: the latest time before the cut,
+// and among equal times the later in the list.
 
 use crate::original::*;
 
 pub fn full_cut(events: &[Event], cut: isize) -> Vec<Event> {
+    // `max_by_key` answers the last of those that are equally late.
+    cut_by(events, cut, &|before, wanted| before.iter().copied().filter(|event| wanted(event)).max_by_key(|event| event.time))
+}
+
+/// The rule before request a), the last in list order, beside which scripts are judged: a script in which both say the same would show nothing.
+pub fn former_cut(events: &[Event], cut: isize) -> Vec<Event> {
+    cut_by(events, cut, &|before, wanted| before.iter().copied().rfind(|event| wanted(event)))
+}
+
+/// Of the events before a cut, the one that counts among those that are wanted.
+type Choice<'a> = &'a dyn for<'b> Fn(&[&'b Event], &dyn Fn(&Event) -> bool) -> Option<&'b Event>;
+
+fn cut_by(events: &[Event], cut: isize, choice: Choice) -> Vec<Event> {
     let before: Vec<&Event> = events.iter().filter(|event| event.time < cut).collect();
-    let last = |wanted: &dyn Fn(&Event) -> bool| before.iter().rev().find(|event| wanted(event)).copied();
+    let counts = |wanted: &dyn Fn(&Event) -> bool| choice(&before, wanted);
     let is = |kind: EventType| move |event: &Event| event.etype == kind;
 
-    let channel = last(&|event| matches!(event.etype, EventType::ControllChange | EventType::Voice)).map_or(0, |event| event.channel);
+    let channel = counts(&|event| matches!(event.etype, EventType::ControllChange | EventType::Voice)).map_or(0, |event| event.channel);
     let controllers = (0..128).filter_map(|number| {
-        let event = last(&|event| event.etype == EventType::ControllChange && event.v1 == number)?;
+        let event = counts(&|event| event.etype == EventType::ControllChange && event.v1 == number)?;
         (event.v2 >= 0).then(|| Event::cc(0, channel, number, event.v2))
     });
-    let program = last(&is(EventType::Voice)).filter(|event| event.v1 >= 0).map(|event| Event::voice(0, channel, event.v1));
-    let bend = last(&is(EventType::PitchBend)).map(|event| Event { time: 0, ..event.clone() });
+    let program = counts(&is(EventType::Voice)).filter(|event| event.v1 >= 0).map(|event| Event::voice(0, channel, event.v1));
+    let bend = counts(&is(EventType::PitchBend)).map(|event| Event { time: 0, ..event.clone() });
 
     let kept = events.iter().filter_map(|event| {
         let moved = Event { time: event.time - cut, ..event.clone() };

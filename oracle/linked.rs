@@ -3,6 +3,7 @@
 //
 //     linked SEED COUNT FAMILIES [SEEDS]      so many scripts, their seeds rising; ends at the first difference
 //     linked SEED edges                       one script of cycle calls at their edge
+//     linked SEED merged COUNT                one script of full cuts of lists that are not sorted
 //     linked bench                            times of some calls on both sides
 
 #![allow(dead_code)]
@@ -19,6 +20,7 @@ mod dice;
 mod edges;
 mod library;
 mod make;
+mod merged;
 mod other;
 mod poke;
 mod private;
@@ -271,10 +273,11 @@ fn main() {
     match words[..] {
         ["bench"] => timing::print(),
         [seed, "edges"] => compare_all(number(seed), 1, edges::script),
+        [seed, "merged", count] => compare_all(number(seed), 1, |seed| merged::script(seed, number(count) as usize)),
         [seed, count, families] => compare_all(number(seed), 1, random(count, families)),
         [seed, count, families, seeds] => compare_all(number(seed), number(seeds), random(count, families)),
         _ => {
-            eprintln!("linked SEED COUNT FAMILIES [SEEDS] | SEED edges | bench");
+            eprintln!("linked SEED COUNT FAMILIES [SEEDS] | SEED edges | SEED merged COUNT | bench");
             std::process::exit(2);
         }
     }

@@ -4,6 +4,7 @@
 //     oracle make SEED COUNT FAMILIES > script
 //     oracle limits SEED FAMILIES > script        every call of the families at its limits
 //     oracle edges SEED > script    cycle calls at the edge of what one may write; `oracle edges SEED names` prints each case's first call and its name
+//     oracle merged SEED COUNT > script           full cuts of lists that are not sorted; `oracle merged SEED COUNT figures` prints what they are like
 //     oracle text < script          one call a line; `oracle binary < text` goes back
 //     oracle cases                  document 01's cases that need only the original
 //     oracle sines SEED COUNT       document 01's sine values beside the original's
@@ -24,6 +25,7 @@ mod dice;
 mod edges;
 mod limits;
 mod make;
+mod merged;
 mod poke;
 mod private;
 mod quarter;
@@ -56,6 +58,8 @@ fn main() -> Result<()> {
                 writeln!(out, "{first} {name}")?;
             }
         }
+        ["merged", seed, count] => script::write(&merged::script(number(seed), number(count) as usize), &mut out)?,
+        ["merged", seed, count, "figures"] => merged::print(number(seed), number(count) as usize, &mut out)?,
         ["text"] => {
             for step in script::read(&mut stdin())? {
                 writeln!(out, "{}", step.text())?;
@@ -103,7 +107,7 @@ fn main() -> Result<()> {
             }
         }
         _ => {
-            eprintln!("oracle run | make SEED COUNT FAMILIES | limits SEED FAMILIES | edges SEED [names] | text | binary | cases | sines SEED COUNT | tape | tapes SEED COUNT | tapes lists | plays | each PROGRAM.. | pick N | thin N");
+            eprintln!("oracle run | make SEED COUNT FAMILIES | limits SEED FAMILIES | edges SEED [names] | merged SEED COUNT [figures] | text | binary | cases | sines SEED COUNT | tape | tapes SEED COUNT | tapes lists | plays | each PROGRAM.. | pick N | thin N");
             std::process::exit(2);
         }
     }

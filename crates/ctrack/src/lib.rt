@@ -962,8 +962,8 @@ pub extern "C" fn dollavir_normalize(events: &mut [i64], count: &mut usize, stor
 }
 
 // Cuts off what is before `cut`: the events that are kept count their time from it, and after them stand, at time 0,
-// the controllers and the program as they were. Answers the new count; the places that fall vacant are zeroed.
-// Refuses 1, 4; then the list is left as it is.
+// the controllers and the program as they were by the last of each in list order. Answers the new count; the places
+// that fall vacant are zeroed. Refuses 1, 4; then the list is left as it is.
 #[no_mangle]
 pub extern "C" fn dollavir_play_from(
     events: &mut [i64],
@@ -980,8 +980,11 @@ pub extern "C" fn dollavir_play_from(
     r.code
 }
 
-// The cut with its bends: those from `cut` on are kept, and the last before it is folded. What is folded stands
-// first. Answers the new count; the places that fall vacant are zeroed. Refuses 1, 4; then the list is left as it is.
+// The cut with its bends: those from `cut` on are kept, and what is folded stands first, the bend too. Of each
+// controller, of the program and of the bend the latest event before `cut` counts, whatever the list's order, and of
+// equal times the later in the list; the channel is that of the latest controller or program. A negative value of the
+// latest unsets, but a bend counts whatever its value, on its own channel. Answers the new count; the places that
+// fall vacant are zeroed. Refuses 1, 4; then the list is left as it is.
 #[no_mangle]
 pub extern "C" fn dollavir_full_cut(
     events: &mut [i64],

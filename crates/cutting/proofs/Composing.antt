@@ -18,7 +18,7 @@ use Rattle.eventlist.specs.Rows.{rowsOf, eventsOf}
 use Rattle.cutting.specs.declared.Cut.{Cut}
 use Rattle.cutting.specs.declared.Last.{Last}
 use Rattle.cutting.specs.Choice.{lastOf}
-use Rattle.cutting.specs.Cuts.{controllers, withTime, folds, controlAt, channelAt, bendAt, controlsFrom, folded, keptOf}
+use Rattle.cutting.specs.Cuts.{controllers, withTime, folds, controlAt, channelAt, bendAt, controlsFrom, inOrder, folded, keptOf}
 use Rattle.cutting.specs.Passes.{Holds, controlsIn, programIn, bendIn, withMore, lastsOf}
 use Rattle.cutting.proofs.Putting.{controls-same}
 use Rattle.cutting.proofs.Room.{room}
@@ -40,21 +40,25 @@ split true b y z e = e
 split false b y z e = refl
 
 module _ (c : Cut) (l : List ℤ) (count : ℕ) (fit : count ≤ length (rowsOf l)) (table : List ℤ) (last : Last)
-    (e₀ : last ≡ lastsOf (c .at) (eventsOf l count)) (h₀ : Holds (controlAt (c .at) (eventsOf l count)) table) where
+    (e₀ : last ≡ lastsOf (c .at) (inOrder c (eventsOf l count))) (h₀ : Holds (controlAt (c .at) (inOrder c (eventsOf l count))) table) where
   abbrev es : List Event
   es = eventsOf l count
 
-  controls : controlsIn table last ≡ controlsFrom (controlAt (c .at) es) (channelAt (c .at) es) controllers 0
-  controls =
-      controls-same (λ n. getD table n (pos 0)) (controlAt (c .at) es) (last .channel) controllers 0 (λ n q. h₀ .each n q)
-      ∙ ap (λ (x : Last). controlsFrom (controlAt (c .at) es) (x .channel) controllers 0) e₀
+  -- the events in the order in which they count
+  abbrev os : List Event
+  os = inOrder c es
 
-  bend : bendIn c last ≡ cond (c .full) (bendAt (c .at) es) []
+  controls : controlsIn table last ≡ controlsFrom (controlAt (c .at) os) (channelAt (c .at) os) controllers 0
+  controls =
+      controls-same (λ n. getD table n (pos 0)) (controlAt (c .at) os) (last .channel) controllers 0 (λ n q. h₀ .each n q)
+      ∙ ap (λ (x : Last). controlsFrom (controlAt (c .at) os) (x .channel) controllers 0) e₀
+
+  bend : bendIn c last ≡ cond (c .full) (bendAt (c .at) os) []
   bend =
       ap (bendIn c) e₀
-      ∙ split (c .full) (lastOf (folds pitchBend (c .at)) (λ e. true) false es) _ _ (bend-of (folds pitchBend (c .at)) false zeroEvent es)
+      ∙ split (c .full) (lastOf (folds pitchBend (c .at)) (λ e. true) false os) _ _ (bend-of (folds pitchBend (c .at)) false zeroEvent os)
 
-  pub same : controlsIn table last ++ (programIn last ++ bendIn c last) ≡ folded c es
+  pub same : controlsIn table last ++ (programIn last ++ bendIn c last) ≡ folded c os
   unfolding folded
   same = ap₂ (λ (x y : List Event). x ++ y) controls (ap₂ (λ (x y : List Event). x ++ y) (ap programIn e₀) bend)
 
@@ -62,7 +66,7 @@ module _ (c : Cut) (l : List ℤ) (count : ℕ) (fit : count ≤ length (rowsOf 
   room-for =
       let r = room c es in
       let n = length-take-le count (rowsOf l) fit in
-      let a = length-append (keptOf c es) (folded c es) in
+      let a = length-append (keptOf c es) (folded c os) in
       let b = ap length same in
       let d = length-append (controlsIn table last) (programIn last ++ bendIn c last) in
       let f = length-append (programIn last) (bendIn c last) in
@@ -73,7 +77,7 @@ module _ (c : Cut) (l : List ℤ) (count : ℕ) (fit : count ≤ length (rowsOf 
       (w₁ : length (rowsOf l₁) ≡ length (rowsOf l)) (w₂ : length (rowsOf l₂) ≡ length (rowsOf l))
       (r₁ : rowsOf l₁ ≡ putFirst zeroEvent count (keptOf c es) (rowsOf l))
       (r₂ : rowsOf l₂ ≡ withMore l₁ k (controlsIn table last)) (r₃ : rowsOf l₃ ≡ withMore l₂ n (programIn last)) (r₄ : rowsOf l₄ ≡ withMore l₃ m (bendIn c last)) where
-    pub whole : rowsOf l₄ ≡ putFirst zeroEvent count (keptOf c es ++ folded c es) (rowsOf l)
+    pub whole : rowsOf l₄ ≡ putFirst zeroEvent count (keptOf c es ++ folded c os) (rowsOf l)
     whole =
         let r = room-for in
         let K = keptOf c es in
@@ -82,9 +86,9 @@ module _ (c : Cut) (l : List ℤ) (count : ℕ) (fit : count ≤ length (rowsOf 
         let B = bendIn c last in
         let a : withMore l₃ m B ≡ withMore l₂ n (P ++ B) = rw em (more-then zeroEvent (rowsOf l₂) (rowsOf l₃) P B n (omega arith) r₃) in
         let b : withMore l₂ n (P ++ B) ≡ withMore l₁ k (C ++ (P ++ B)) = rw en (more-then zeroEvent (rowsOf l₁) (rowsOf l₂) C (P ++ B) k (omega arith) r₂) in
-        let d : withMore l₁ k (C ++ (P ++ B)) ≡ withMore l₁ k (folded c es) = ap (λ (x : List Event). withMore l₁ k x) same in
-        let f : withMore l₁ k (folded c es) ≡ putFirst zeroEvent count (K ++ folded c es) (rowsOf l) =
+        let d : withMore l₁ k (C ++ (P ++ B)) ≡ withMore l₁ k (folded c os) = ap (λ (x : List Event). withMore l₁ k x) same in
+        let f : withMore l₁ k (folded c os) ≡ putFirst zeroEvent count (K ++ folded c os) (rowsOf l) =
         rw (r₁, ek)
-        (ap (λ (x : List Event). putFirst zeroEvent (length K) (x ++ folded c es) (putFirst zeroEvent count K (rowsOf l))) (take-append-seam K (replicate (count - length K) zeroEvent ++ drop (max count (length K)) (rowsOf l)))
-        ∙ put-again zeroEvent count K (folded c es) (rowsOf l)) in
+        (ap (λ (x : List Event). putFirst zeroEvent (length K) (x ++ folded c os) (putFirst zeroEvent count K (rowsOf l))) (take-append-seam K (replicate (count - length K) zeroEvent ++ drop (max count (length K)) (rowsOf l)))
+        ∙ put-again zeroEvent count K (folded c os) (rowsOf l)) in
         r₄ ∙ a ∙ b ∙ d ∙ f

@@ -1,4 +1,5 @@
 pub mod Lasts
+pub mod ByTime
 pub mod Folding
 pub mod Room
 pub mod Stored
@@ -7,5 +8,6 @@ pub mod Putting
 pub mod Composing
 pub mod Asking
 pub mod Refusing
+pub mod Counting
 pub mod Promises
 pub mod Sound

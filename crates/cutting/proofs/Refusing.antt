@@ -14,7 +14,7 @@ use Rattle.events.specs.Events.{zeroEvent}
 use Rattle.eventlist.specs.Rows.{eventsOf}
 use Rattle.eventlist.specs.Sound.{isList}
 use Rattle.cutting.specs.declared.Cut.{Cut}
-use Rattle.cutting.specs.Cuts.{folded, keptOf, cutOf, fitsCut, cutRefusal}
+use Rattle.cutting.specs.Cuts.{inOrder, folded, keptOf, cutOf, fitsCut, cutRefusal}
 use Rattle.cutting.specs.Passes.{partsOf, turned}
 
 module _ (store : ℕ) (l : List ℤ) (count : ℕ) (c : Cut) where
@@ -51,20 +51,20 @@ swapped count k f all =
     rw (same, t, d, e, h)
 
 pub arranged : (c : Cut) (es : List Event) (count : ℕ) (all : List Event)
-    → cond (c .full) (turned (partsOf c es) (putFirst zeroEvent count (keptOf c es ++ folded c es) all)) (putFirst zeroEvent count (keptOf c es ++ folded c es) all)
+    → cond (c .full) (turned (partsOf c es) (putFirst zeroEvent count (keptOf c es ++ folded c (inOrder c es)) all)) (putFirst zeroEvent count (keptOf c es ++ folded c (inOrder c es)) all)
     ≡ putFirst zeroEvent count (cutOf c es) all
 unfolding cutOf
 arranged c es count all = go (c .full)
   where
-    go : (t : Bool) → cond t (turned (partsOf c es) (putFirst zeroEvent count (keptOf c es ++ folded c es) all)) (putFirst zeroEvent count (keptOf c es ++ folded c es) all)
-        ≡ putFirst zeroEvent count (cond t (folded c es ++ keptOf c es) (keptOf c es ++ folded c es)) all
-    go true = swapped count (keptOf c es) (folded c es) all
+    go : (t : Bool) → cond t (turned (partsOf c es) (putFirst zeroEvent count (keptOf c es ++ folded c (inOrder c es)) all)) (putFirst zeroEvent count (keptOf c es ++ folded c (inOrder c es)) all)
+        ≡ putFirst zeroEvent count (cond t (folded c (inOrder c es) ++ keptOf c es) (keptOf c es ++ folded c (inOrder c es))) all
+    go true = swapped count (keptOf c es) (folded c (inOrder c es)) all
     go false = refl
 
-pub same-count : (c : Cut) (es : List Event) → length (keptOf c es ++ folded c es) ≡ length (cutOf c es)
+pub same-count : (c : Cut) (es : List Event) → length (keptOf c es ++ folded c (inOrder c es)) ≡ length (cutOf c es)
 unfolding cutOf
 same-count c es = go (c .full)
   where
-    go : (t : Bool) → length (keptOf c es ++ folded c es) ≡ length (cond t (folded c es ++ keptOf c es) (keptOf c es ++ folded c es))
-    go true = let a = length-append (keptOf c es) (folded c es) in let b = length-append (folded c es) (keptOf c es) in omega arith
+    go : (t : Bool) → length (keptOf c es ++ folded c (inOrder c es)) ≡ length (cond t (folded c (inOrder c es) ++ keptOf c es) (keptOf c es ++ folded c (inOrder c es)))
+    go true = let a = length-append (keptOf c es) (folded c (inOrder c es)) in let b = length-append (folded c (inOrder c es)) (keptOf c es) in omega arith
     go false = refl

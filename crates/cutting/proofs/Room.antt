@@ -3,8 +3,8 @@
 --     set-length     the controllers that are folded are those that are set
 --     count-step     storing one value sets at most one more
 --     at-most-one    an event is kept, or folded once, or neither
---     room           kept and folded events fit where the events stood
-use mathlib.Core.Path.{_≡_, refl, ap, _∙_}
+--     room           kept and folded events fit where the events stood, in whatever order they count
+use mathlib.Core.Path.{_≡_, refl, sym, ap, _∙_}
 use mathlib.Core.Bool.{Bool, true, false, cond, not, _&&_}
 use mathlib.Core.List.{List, [], _∷_, _++_}
 use mathlib.Core.Logic.{⊎-elim}
@@ -21,9 +21,12 @@ use Rattle.laws.proofs.Bools.{which}
 use Rattle.events.specs.declared.Event.{Event}
 use Rattle.events.specs.Events.{ccEvent, voiceEvent}
 use Rattle.events.specs.Kinds.{controlChange, pitchBend, voice}
+use Rattle.sorting.specs.Stable.{stableSort}
+use Rattle.sorting.specs.Sorting.{earlier}
+use Rattle.sorting.proofs.Placing.{length-among, many-sort}
 use Rattle.cutting.specs.declared.Cut.{Cut}
 use Rattle.cutting.specs.Choice.{lastOf}
-use Rattle.cutting.specs.Cuts.{controllers, unset, withTime, folds, controlAt, programAt, channelAt, bendAt, controlsFrom, programOn, folded, keeps, shifted, keptOf}
+use Rattle.cutting.specs.Cuts.{controllers, unset, withTime, folds, controlAt, programAt, channelAt, bendAt, controlsFrom, programOn, inOrder, folded, keeps, shifted, keptOf}
 use Rattle.cutting.proofs.Folding.{folds-alone, control-kept, program-kept, bend-kept}
 
 -- a Bool as a count
@@ -168,8 +171,28 @@ module _ (c : Cut) where
       let n = set-none k 0 in
       omega arith
 
-  pub room : (es : List Event) → length (keptOf c es ++ folded c es) ≤ length es
+  room-in : (es : List Event) → length (keptOf c es ++ folded c es) ≤ length es
   unfolding folded
-  room es =
+  room-in es =
       total (keptOf c es) (controlsFrom (controlAt (c .at) es) (channelAt (c .at) es) controllers 0) (programOn (programAt (c .at) es) (channelAt (c .at) es)) (cond (c .full) (bendAt (c .at) es) []) (length es)
       (room-of controllers es)
+
+  -- sorted there are as many events, and as many of them are kept
+  kept-sorted : (es : List Event) → length (keptOf c (stableSort earlier es)) ≡ length (keptOf c es)
+  kept-sorted es =
+      let out : Event → Bool = λ e. not (keeps c e) in
+      length-map (without out (stableSort earlier es)) (shifted c) ∙ many-sort earlier out es ∙ sym (length-map (without out es) (shifted c))
+
+  pub room : (es : List Event) → length (keptOf c es ++ folded c (inOrder c es)) ≤ length es
+  room es = go (c .full)
+    where
+      go : (t : Bool) → length (keptOf c es ++ folded c (cond t (stableSort earlier es) es)) ≤ length es
+      go true =
+          let s = stableSort earlier es in
+          let r = room-in s in
+          let a = length-append (keptOf c s) (folded c s) in
+          let b = length-append (keptOf c es) (folded c s) in
+          let k = kept-sorted es in
+          let n = length-among earlier es [] in
+          omega arith
+      go false = room-in es

@@ -26,9 +26,12 @@ use Rattle.events.proofs.Stored.{storable, storable-ok, cc-stored, plain-stored
 use Rattle.eventlist.specs.Rows.{rowsOf, eventsOf}
 use Rattle.eventlist.specs.Sound.{isList}
 use Rattle.eventlist.proofs.Sound.{list-within, passed, SoundList, left-sound}
+use Rattle.sorting.specs.Stable.{stableSort}
+use Rattle.sorting.specs.Sorting.{earlier}
+use Rattle.sorting.proofs.Sound.{all-sort}
 use Rattle.cutting.specs.declared.Cut.{Cut}
 use Rattle.cutting.specs.Choice.{lastOf}
-use Rattle.cutting.specs.Cuts.{controllers, unset, withTime, folds, controlAt, programAt, channelAt, bendAt, controlsFrom, programOn, folded, keeps, shifted, keptOf, cutOf, fitsCut, cutRefusal, cutTaken, cutLeft}
+use Rattle.cutting.specs.Cuts.{controllers, unset, withTime, folds, controlAt, programAt, channelAt, bendAt, controlsFrom, programOn, inOrder, folded, keeps, shifted, keptOf, cutOf, fitsCut, cutRefusal, cutTaken, cutLeft}
 use Rattle.cutting.proofs.Room.{room}
 use Rattle.cutting.proofs.Refusing.{same-count}
 
@@ -165,12 +168,19 @@ module _ (store : ℕ) where
       kept : all (okEvent store) (keptOf c es) ≡ true
       kept = kept-stored c es y
 
-      fold : all (okEvent store) (folded c es) ≡ true
-      fold = folded-stored c es (all-imply (fitsCut store c) (okEvent store) (fit-stored c) es y)
+      stored : all (okEvent store) es ≡ true
+      stored = all-imply (fitsCut store c) (okEvent store) (fit-stored c) es y
 
-      go : (t : Bool) → all (okEvent store) (cond t (folded c es ++ keptOf c es) (keptOf c es ++ folded c es)) ≡ true
-      go true = all-append (okEvent store) (folded c es) (keptOf c es) fold kept
-      go false = all-append (okEvent store) (keptOf c es) (folded c es) kept fold
+      ordered : (t : Bool) → all (okEvent store) (cond t (stableSort earlier es) es) ≡ true
+      ordered true = all-sort earlier (okEvent store) es stored
+      ordered false = stored
+
+      fold : all (okEvent store) (folded c (inOrder c es)) ≡ true
+      fold = folded-stored c (inOrder c es) (ordered (c .full))
+
+      go : (t : Bool) → all (okEvent store) (cond t (folded c (inOrder c es) ++ keptOf c es) (keptOf c es ++ folded c (inOrder c es))) ≡ true
+      go true = all-append (okEvent store) (folded c (inOrder c es)) (keptOf c es) fold kept
+      go false = all-append (okEvent store) (keptOf c es) (folded c (inOrder c es)) kept fold
 
 -- ---- the calls: `play_from` is the cut `plain at`, `full_cut` the cut `whole at`
 pub cut-sound : (store : ℕ) (l : List ℤ) (count : ℕ) (c : Cut) → cutRefusal store l count c ≡ 0 → SoundList store (cutLeft store l count c) (cutTaken store l count c .count)

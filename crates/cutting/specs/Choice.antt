@@ -1,4 +1,4 @@
--- 01, "Defaults" and "The cut": what counts is the last event in list order.
+-- 01, "Defaults" and "The cut": what counts is the last event of a list.
 use mathlib.Core.Bool.{Bool, cond}
 use mathlib.Core.List.{List, [], _∷_}
 use Rattle.events.specs.declared.Event.{Event}

@@ -1,4 +1,4 @@
--- 01, "The cut" and "Full cut (added)".
+-- 01, "The cut" and "Full cut (added)", with 02, a), which replaces what counts in the full cut.
 use mathlib.Core.Bool.{Bool, true, false, cond, not, _&&_, _||_}
 use mathlib.Core.List.{List, [], _∷_, _++_, map}
 use Prim.Native.Nat.{ℕ, zero, suc}
@@ -16,6 +16,8 @@ use Rattle.events.specs.Kinds.{noteOn, controlChange, pitchBend, voice, meta, s
 use Rattle.eventlist.specs.declared.Taken.{Taken}
 use Rattle.eventlist.specs.Rows.{numbersOf, rowsOf, eventsOf}
 use Rattle.eventlist.specs.Sound.{isList}
+use Rattle.sorting.specs.Stable.{stableSort}
+use Rattle.sorting.specs.Sorting.{earlier}
 use Rattle.cutting.specs.declared.Cut.{Cut}
 use Rattle.cutting.specs.Choice.{lastOf}
 
@@ -46,16 +48,23 @@ unfoldable pub folds : ℤ → ℤ → Event → Bool
 folds kind at e = eqZ (e .kind) kind && ltZ (e .time) at
 
 module _ (at : ℤ) where
-  -- "the last in list order before the cut counts": of a controller, of the program,
+  -- an event of controller n before the cut; one that gives the channel
+  abbrev pub controls : ℕ → Event → Bool
+  controls n e = folds controlChange at e && eqZ (e .v1) (pos n)
+
+  abbrev pub tells : Event → Bool
+  tells e = folds voice at e || folds controlChange at e
+
+  -- of events in the order in which they count, the last before the cut: of a controller, of the program,
   abbrev pub controlAt : List Event → ℕ → ℤ
-  controlAt es n = lastOf (λ e. folds controlChange at e && eqZ (e .v1) (pos n)) (λ e. e .v2) unset es
+  controlAt es n = lastOf (controls n) (λ e. e .v2) unset es
 
   abbrev pub programAt : List Event → ℤ
   programAt es = lastOf (folds voice at) (λ e. e .v1) unset es
 
   -- of the channel, "all on the last folded channel",
   abbrev pub channelAt : List Event → ℤ
-  channelAt es = lastOf (λ e. folds voice at e || folds controlChange at e) (λ e. e .channel) (pos 0) es
+  channelAt es = lastOf tells (λ e. e .channel) (pos 0) es
 
   -- and of the bend, "on its own channel, at time 0"
   abbrev pub bendAt : List Event → List Event
@@ -72,7 +81,12 @@ abbrev pub programOn : ℤ → ℤ → List Event
 programOn program channel = unless (ltZ program (pos 0)) (voiceEvent (pos 0) channel program) []
 
 module _ (c : Cut) where
-  -- "controllers rising, program", and in the full cut "then the last bend"
+  -- 01: in the cut "the last in list order before the cut counts"; 02, a): "in the full cut the latest time before the cut
+  -- counts, and among equal times the later in the list", which is the last of the list sorted stably by time
+  abbrev pub inOrder : List Event → List Event
+  inOrder es = cond (c .full) (stableSort earlier es) es
+
+  -- "controllers rising, program", and in the full cut "then the last bend", of events in the order in which they count
   unfoldable pub folded : List Event → List Event
   folded es =
       controlsFrom (controlAt (c .at) es) (channelAt (c .at) es) controllers 0
@@ -102,7 +116,7 @@ whole at = record { at = at; full = true }
 
 -- "folded events come after the kept ones"; in the full cut "the folded events stand first"
 unfoldable pub cutOf : Cut → List Event → List Event
-cutOf c es = cond (c .full) (folded c es ++ keptOf c es) (keptOf c es ++ folded c es)
+cutOf c es = cond (c .full) (folded c (inOrder c es) ++ keptOf c es) (keptOf c es ++ folded c (inOrder c es))
 
 -- an event that may be stored, and whose time, if it is kept, stays within ±2^42
 unfoldable pub fitsCut : ℕ → Cut → Event → Bool

@@ -16,18 +16,18 @@ use Rattle.cutting.specs.declared.Cut.{Cut}
 use Rattle.cutting.specs.declared.Last.{Last}
 use Rattle.cutting.specs.declared.Parts.{Parts}
 use Rattle.cutting.specs.Choice.{lastOf}
-use Rattle.cutting.specs.Cuts.{controllers, withTime, folds, programAt, channelAt, controlsFrom, programOn, keptOf, folded}
+use Rattle.cutting.specs.Cuts.{controllers, withTime, folds, programAt, channelAt, controlsFrom, programOn, inOrder, keptOf, folded}
 
 -- what a cut leans on: a time that may be taken from, and a number that is a controller's where the kind is one
 unfoldable pub sound : Event → Bool
 sound e = isEventTime (e .time) && okNumbered e
 
--- the table has the value of each controller
+-- the table has the number of each controller
 pub record Holds (value : ℕ → ℤ) (table : List ℤ) : Type 0 where
   pub long : length table ≡ controllers
   pub each : (n : ℕ) → n < controllers → getD table n (pos 0) ≡ value n
 
--- what is remembered beside it
+-- what is remembered beside it, of events in the order in which they count
 abbrev pub lastsOf : ℤ → List Event → Last
 lastsOf at es =
     record {
@@ -47,8 +47,12 @@ noted at last e =
       bend = cond (folds pitchBend at e) e (last .bend);
     }
 
+-- a table after x was stored at the place of number v, if it was
+abbrev pub stored : Bool → ℤ → ℤ → List ℤ → List ℤ
+stored does v x table = cond does (set table (cut v) x) table
+
 unfoldable pub valued : ℤ → List ℤ → Event → List ℤ
-valued at table e = cond (folds controlChange at e) (set table (cut (e .v1)) (e .v2)) table
+valued at table e = stored (folds controlChange at e) (e .v1) (e .v2) table
 
 -- the controllers of a table, the program and the bend that are remembered, as events
 abbrev pub controlsIn : List ℤ → Last → List Event
@@ -65,7 +69,7 @@ abbrev pub withMore : List ℤ → ℕ → List Event → List Event
 withMore l n more = putFirst zeroEvent n (eventsOf l n ++ more) (rowsOf l)
 
 abbrev pub partsOf : Cut → List Event → Parts
-partsOf c es = record { kept = length (keptOf c es); count = length (keptOf c es ++ folded c es) }
+partsOf c es = record { kept = length (keptOf c es); count = length (keptOf c es ++ folded c (inOrder c es)) }
 
 -- the first `count` records, of which those after the first `kept` come to the front
 abbrev pub turned : Parts → List Event → List Event

@@ -1,6 +1,7 @@
 // What a controller reads at a time, and the two cuts, which drop what was before a time and fold the controllers and
 // the program that stood there into events at the start: `play_from`, as the Rust has it, and `full_cut`, which keeps
-// the bend too and puts what it folds first. Both work in place, in passes over the list from front to back.
+// the bend too and puts what it folds first. Both work in place, in passes over the list from front to back. In `play_from`
+// the last event in list order counts; in `full_cut` the latest, whatever the list's order.
 ghost use mathlib.Core.Path.{_≡_};
 ghost use mathlib.Core.Bool.{true, cond};
 ghost use mathlib.Core.List.{_++_};
@@ -11,8 +12,11 @@ ghost use Rattle.numbers.specs.Ranges.{isTime, isEventTime};
 ghost use Rattle.events.specs.Events.{zeroEvent, okNumbered};
 ghost use Rattle.eventlist.specs.Rows.{rowsOf, eventsOf};
 ghost use Rattle.cutting.specs.Value.{defaultOf, speaks, ccValue, ccAnswer};
-ghost use Rattle.cutting.specs.Cuts.{unset, withTime, controlAt, folded, keeps, shifted, keptOf, fitsCut, cutTaken, cutLeft, plain, whole};
-ghost use Rattle.cutting.specs.Passes.{sound, Holds, lastsOf, noted, valued, partsOf, controlsIn, programIn, bendIn, withMore, turned};
+ghost use Rattle.sorting.specs.Stable.{stableSort};
+ghost use Rattle.sorting.specs.Sorting.{earlier};
+ghost use Rattle.cutting.specs.Cuts.{unset, withTime, folds, controlAt, inOrder, folded, keeps, shifted, keptOf, fitsCut, cutTaken, cutLeft, plain, whole};
+ghost use Rattle.cutting.specs.Passes.{sound, Holds, lastsOf, noted, stored, valued, partsOf, controlsIn, programIn, bendIn, withMore, turned};
+ghost use Rattle.cutting.specs.ByTime.{countsAt, replacing, stood, noneStands, lastIn, earliest, dated};
 use eventlist::Taken;
 use eventlist::WIDTH;
 use eventlist::append;
@@ -192,7 +196,7 @@ fn all_fit(events: &[i64], count: usize, c: Cut, store: usize) -> bool
     true
 }
 
-// What is remembered of the events before a cut, beside the values of the controllers.
+// What is remembered of the events before a cut, in the order in which they count, beside the values of the controllers.
 pub struct Last {
     pub program: i64,
     pub channel: i64,
@@ -250,7 +254,8 @@ fn note_value(values: &mut [i64; 128], e: Event, c: Cut)
     }
 }
 
-// Remembers what stands before the cut: each controller's value in the table, which is all unset, the rest in the answer.
+// Remembers what stands before the cut, the last in list order: each controller's value in the table, which is all unset,
+// the rest in the answer.
 fn remember(events: &[i64], count: usize, c: Cut, values: &mut [i64; 128]) -> Last
     requires { ⌜ (count ≤ length (rowsOf (now events))) × ((all sound (eventsOf (now events) count) ≡ true) × (Holds (λ n. unset) (now values))) ⌝ }
     ensures { λ r. ⌜ (r ≡ lastsOf (c .at) (eventsOf (now (events .entry)) count)) × (Holds (controlAt (c .at) (eventsOf (now (events .entry)) count)) (now (values .exit))) ⌝ }
@@ -269,6 +274,158 @@ fn remember(events: &[i64], count: usize, c: Cut, values: &mut [i64; 128]) -> La
         i += 1;
     }
     last
+}
+
+// The latest so far of some events; where none was found, `event` says what there is then.
+pub struct Latest {
+    pub found: bool,
+    pub event: Event,
+}
+
+// Whether an event at `time` counts beside the latest so far: of equal times the later in the list does.
+fn counts(l: Latest, time: i64) -> bool
+    ensures { λ r. ⌜ r ≡ countsAt l time ⌝ }
+{
+    let held = l.event;
+    !l.found | (held.time <= time)
+}
+
+// The latest after one more event, of which `does` says whether it counts.
+fn replaced(l: Latest, e: Event, does: bool) -> Latest
+    ensures { λ r. ⌜ r ≡ replacing l e does ⌝ }
+{
+    if does {
+        return Latest {
+            found: true,
+            event: e,
+        };
+    }
+    l
+}
+
+// The latest events before a full cut: the program, the program or controller that gives the channel, and the bend.
+pub struct Standing {
+    pub program: Latest,
+    pub channel: Latest,
+    pub bend: Latest,
+}
+
+// Before any event: the program is unset, the channel 0, and there is no bend.
+fn none_stands() -> Standing
+    ensures { λ r. ⌜ r ≡ noneStands ⌝ }
+{
+    let none = Latest {
+        found: false,
+        event: zero_event(),
+    };
+    Standing {
+        program: Latest {
+            found: false,
+            event: voice_event(0, 0, -1),
+        },
+        channel: none,
+        bend: none,
+    }
+}
+
+// Whether the event is of the kind and before the cut.
+fn is_folded(e: Event, kind: i64, c: Cut) -> bool
+    ensures { λ r. ⌜ r ≡ folds kind (c .at) e ⌝ }
+{
+    (e.kind == kind) & (e.time < c.at)
+}
+
+// What stands after one more event.
+fn stand(s: Standing, e: Event, c: Cut) -> Standing
+    ensures { λ r. ⌜ r ≡ stood (c .at) s e ⌝ }
+{
+    let program = s.program;
+    let channel = s.channel;
+    let bend = s.bend;
+    let voice = is_folded(e, VOICE, c);
+    let told = voice | is_folded(e, CONTROL_CHANGE, c);
+    let bends = is_folded(e, PITCH_BEND, c);
+    Standing {
+        program: replaced(program, e, voice & counts(program, e.time)),
+        channel: replaced(channel, e, told & counts(channel, e.time)),
+        bend: replaced(bend, e, bends & counts(bend, e.time)),
+    }
+}
+
+// What stands, as it is remembered.
+fn last_of(s: Standing) -> Last
+    ensures { λ r. ⌜ r ≡ lastIn s ⌝ }
+{
+    let program = s.program;
+    let channel = s.channel;
+    let bend = s.bend;
+    let p = program.event;
+    let c = channel.event;
+    let b = bend.event;
+    Last {
+        program: p.v1,
+        channel: c.channel,
+        bent: bend.found,
+        bend: b,
+    }
+}
+
+// No event that may be stored is before it.
+const EARLIEST: i64 = -4398046511104;
+
+// Stores the value of a controller's event before the cut, and its time, unless the time that is stored is later.
+fn note_latest(values: &mut [i64; 128], times: &mut [i64; 128], e: Event, c: Cut)
+    requires { ⌜ okNumbered e ≡ true ⌝ }
+    ensures { λ r. ⌜ (now (values .exit) ≡ stored (dated (c .at) (now (times .entry)) e) (e .v1) (e .v2) (now (values .entry)))
+        × (now (times .exit) ≡ stored (dated (c .at) (now (times .entry)) e) (e .v1) (e .time) (now (times .entry))) ⌝ }
+{
+    if is_folded(e, CONTROL_CHANGE, c) {
+        let k = e.v1 as usize;
+        let t = e.time;
+        let v = e.v2;
+        if times[k] <= t {
+            times[k] = t;
+            values[k] = v;
+        }
+    }
+}
+
+// Remembers what stands before the cut, the latest: each controller's value in the table, which is all unset, the rest in
+// the answer. Of the times that count the other table, at first EARLIEST everywhere, keeps account.
+fn remember_latest(
+    events: &[i64],
+    count: usize,
+    c: Cut,
+    values: &mut [i64; 128],
+    times: &mut [i64; 128],
+) -> Last
+    requires { ⌜ (count ≤ length (rowsOf (now events))) × ((all sound (eventsOf (now events) count) ≡ true)
+        × ((Holds (λ n. unset) (now values)) × (Holds (λ n. earliest) (now times)))) ⌝ }
+    ensures { λ r. ⌜ (r ≡ lastsOf (c .at) (stableSort earlier (eventsOf (now (events .entry)) count)))
+        × (Holds (controlAt (c .at) (stableSort earlier (eventsOf (now (events .entry)) count))) (now (values .exit))) ⌝ }
+{
+    let mut s = none_stands();
+    let mut i: usize = 0;
+    while i < count {
+        let e = read_event(events, i);
+        s = stand(s, e, c);
+        note_latest(values, times, e, c);
+        i += 1;
+    }
+    last_of(s)
+}
+
+// Remembers what stands before the cut, in the order that counts in it.
+fn remember_in_order(events: &[i64], count: usize, c: Cut, values: &mut [i64; 128]) -> Last
+    requires { ⌜ (count ≤ length (rowsOf (now events))) × ((all sound (eventsOf (now events) count) ≡ true) × (Holds (λ n. unset) (now values))) ⌝ }
+    ensures { λ r. ⌜ (r ≡ lastsOf (c .at) (inOrder c (eventsOf (now (events .entry)) count)))
+        × (Holds (controlAt (c .at) (inOrder c (eventsOf (now (events .entry)) count))) (now (values .exit))) ⌝ }
+{
+    if c.full {
+        let mut times: [i64; 128] = [EARLIEST; 128];
+        return remember_latest(events, count, c, values, &mut times);
+    }
+    remember(events, count, c, values)
 }
 
 // Takes out what the cut does not keep and shifts the rest, each record moved at most once; answers how many are left.
@@ -347,10 +504,10 @@ pub struct Parts {
 fn fold(events: &mut [i64], count: usize, c: Cut) -> Parts
     requires { ⌜ (count ≤ length (rowsOf (now events))) × ((isTime (c .at) ≡ true) × (all sound (eventsOf (now events) count) ≡ true)) ⌝ }
     ensures { λ r. ⌜ (r ≡ partsOf c (eventsOf (now (events .entry)) count))
-        × (rowsOf (now (events .exit)) ≡ putFirst zeroEvent count (keptOf c (eventsOf (now (events .entry)) count) ++ folded c (eventsOf (now (events .entry)) count)) (rowsOf (now (events .entry)))) ⌝ }
+        × (rowsOf (now (events .exit)) ≡ putFirst zeroEvent count (keptOf c (eventsOf (now (events .entry)) count) ++ folded c (inOrder c (eventsOf (now (events .entry)) count))) (rowsOf (now (events .entry)))) ⌝ }
 {
     let mut values: [i64; 128] = [-1; 128];
-    let last = remember(events, count, c, &mut values);
+    let last = remember_in_order(events, count, c, &mut values);
     let kept = keep(events, count, c);
     let n = put_controls(events, kept, &values, last);
     let m = put_program(events, n, last);
@@ -403,8 +560,8 @@ fn cut_list(events: &mut [i64], count: usize, c: Cut, store: usize) -> Taken
 }
 
 // Cuts off what is before `cut`: the events that are kept count their time from it, and after them stand, at time 0,
-// the controllers and the program as they were. Answers the new count; the places that fall vacant are zeroed.
-// Refuses 1, 4; then the list is left as it is.
+// the controllers and the program as they were by the last of each in list order. Answers the new count; the places that
+// fall vacant are zeroed. Refuses 1, 4; then the list is left as it is.
 pub fn play_from(events: &mut [i64], count: usize, cut: i64, store: &[u8]) -> Taken
     ensures { λ r. ⌜ (r ≡ cutTaken (length (now (store .entry))) (now (events .entry)) count (plain cut))
         × (now (events .exit) ≡ cutLeft (length (now (store .entry))) (now (events .entry)) count (plain cut)) ⌝ }
@@ -416,8 +573,11 @@ pub fn play_from(events: &mut [i64], count: usize, cut: i64, store: &[u8]) -> Ta
     cut_list(events, count, c, store.len())
 }
 
-// The cut with its bends: those from `cut` on are kept, and the last before it is folded. What is folded stands first.
-// Answers the new count; the places that fall vacant are zeroed. Refuses 1, 4; then the list is left as it is.
+// The cut with its bends: those from `cut` on are kept, and what is folded stands first, the bend too. Of each controller,
+// of the program and of the bend the latest event before `cut` counts, whatever the list's order, and of equal times the
+// later in the list; the channel is that of the latest controller or program. A negative value of the latest unsets, but a
+// bend counts whatever its value, on its own channel. Answers the new count; the places that fall vacant are zeroed.
+// Refuses 1, 4; then the list is left as it is.
 pub fn full_cut(events: &mut [i64], count: usize, cut: i64, store: &[u8]) -> Taken
     ensures { λ r. ⌜ (r ≡ cutTaken (length (now (store .entry))) (now (events .entry)) count (whole cut))
         × (now (events .exit) ≡ cutLeft (length (now (store .entry))) (now (events .entry)) count (whole cut)) ⌝ }

@@ -22,7 +22,7 @@ use Rattle.eventlist.specs.Sound.{isList}
 use Rattle.eventlist.proofs.EventRows.{same-rows, determined}
 use Rattle.eventlist.proofs.Sound.{list-whole, list-within}
 use Rattle.cutting.specs.declared.Parts.{Parts}
-use Rattle.cutting.specs.Cuts.{folded, keptOf, cutOf, fitsCut}
+use Rattle.cutting.specs.Cuts.{inOrder, folded, keptOf, cutOf, fitsCut}
 use Rattle.cutting.specs.Passes.{turned, sound}
 use Rattle.cutting.proofs.Refusing.{no-list, no-time, no-events, well, arranged, same-count}
 use Rattle.cutting.proofs.Room.{room}
@@ -78,7 +78,7 @@ module _ (f : tie.After-fold) where
   ordered =
       let a = ap (λ (p : Parts). p .kept) (f .fold .ensures .0) in
       let b = ap (λ (p : Parts). p .count) (f .fold .ensures .0) in
-      let d = length-append (keptOf (s u .args .c) (es u)) (folded (s u .args .c) (es u)) in
+      let d = length-append (keptOf (s u .args .c) (es u)) (folded (s u .args .c) (inOrder (s u .args .c) (es u))) in
       omega arith
 
   held : f .fold .result .count ≤ length (rowsOf (f .fold .last .0))
