@@ -1,5 +1,5 @@
 // Full cuts (310) of lists that are not sorted: voices that were appended to a list one after the other, as an arranger does who cuts before sorting. Few times, few controllers and few channels, so that
-// events of equal times, of one controller and of several channels meet. Each list is one desk, falls in time somewhere, and is cut once.
+// events of equal times, of one controller and of several channels meet. What a cut left stays, and the next voices come behind it; each list that is cut falls in time somewhere.
 
 use crate::cut::{former_cut, full_cut};
 use crate::desk::events_of;
@@ -7,6 +7,10 @@ use crate::make::Maker;
 use crate::original::*;
 use crate::script::Step;
 use std::io::{Result, Write};
+
+/// The records that a list has room for, and how many cuts are made before a new one is begun: emptying it is what costs most.
+const ROOM: i64 = 64;
+const CUTS: usize = 40;
 
 /// How many cuts a script holds, and what those are like that show something.
 #[derive(Default)]
@@ -48,16 +52,18 @@ fn made(seed: u64, count: usize) -> (Vec<Step>, Figures) {
 impl Maker {
     /// One list and its cut.
     fn merged(&mut self, figures: &mut Figures) {
-        let mut records = self.voices();
-        while !falls(&records) {
-            records = self.voices();
+        if figures.cuts % CUTS == 0 || self.desk.list.len() as i64 > ROOM / 2 {
+            self.emit(902, &[96, 0, ROOM]);
         }
-        let spare = self.dice.pick(0, 3);
-        self.emit(902, &[96, 0, records.len() as i64 + spare]);
-        for record in &records {
+        let mut voices = self.voices();
+        while !falls(&[self.desk.list.clone(), voices.clone()].concat()) {
+            voices = self.voices();
+        }
+        for record in &voices {
             self.emit(904, record);
         }
-        let (first, last) = (records.iter().map(|record| record[1]).min().unwrap(), records.iter().map(|record| record[1]).max().unwrap());
+        let times: Vec<i64> = self.desk.list.iter().map(|record| record[1]).collect();
+        let (first, last) = (*times.iter().min().unwrap(), *times.iter().max().unwrap());
         let within = self.dice.pick(first, last + 1);
         let cut = self.dice.of(&[within, within, within, within, last + 1, last, first]).clamp(-(1 << 40), 1 << 40);
         figures.count(&events_of(&self.desk.list), cut as isize);
@@ -88,18 +94,17 @@ impl Maker {
 
     /// Mostly what a cut folds, with a negative value now and then; else any event.
     fn folded(&mut self, numbers: &[i64], channels: &[i64]) -> [i64; 8] {
-        let mut record = self.dice.record();
+        let any = self.dice.record();
         if self.dice.one_in(8) {
-            return record;
+            return any;
         }
         let value = if self.dice.one_in(6) { self.dice.of(&[-1, -5, i32::MIN as i64]) } else { self.dice.pick(0, 127) };
         let kind = self.dice.of(&[2, 2, 2, 5, 3]);
-        let rest = if kind == 3 && self.dice.one_in(4) { [record[4], record[5]] } else { [0, 0] };
-        record = match kind {
+        let rest = if kind == 3 && self.dice.one_in(4) { [any[4], any[5]] } else { [0, 0] };
+        match kind {
             2 => [2, 0, self.dice.of(channels), self.dice.of(numbers), value, 0, 0, 0],
             _ => [kind, 0, self.dice.of(channels), value, rest[0], rest[1], 0, 0],
-        };
-        record
+        }
     }
 }
 
@@ -109,25 +114,27 @@ fn falls(records: &[[i64; 8]]) -> bool {
 
 impl Figures {
     fn count(&mut self, events: &[Event], cut: isize) {
-        let (now, former) = (full_cut(events, cut), former_cut(events, cut));
-        // What is folded stands first, and the kept events are the same on both sides.
-        let kept = events.len() - events.iter().filter(|event| !keeps(event, cut)).count();
-        let (now, former) = (&now[..now.len() - kept], &former[..former.len() - kept]);
-        let of = |list: &[Event], kind: EventType| -> Vec<(isize, isize)> { list.iter().filter(|event| event.etype == kind).map(|event| (event.v1, event.v2)).collect() };
+        // Without what is kept, so that what is folded is left alone.
+        let before: Vec<Event> =
+            events.iter().filter(|event| event.time < cut && !matches!(event.etype, EventType::Meta | EventType::SysEx)).cloned().collect();
+        let (now, former) = (full_cut(&before, cut), former_cut(&before, cut));
+        let of = |list: &[Event], kind: EventType| -> Vec<(isize, isize)> {
+            list.iter().filter(|event| event.etype == kind).map(|event| (event.v1, event.v2)).collect()
+        };
         let channel = |list: &[Event]| list.iter().find(|event| event.etype != EventType::PitchBend).map(|event| event.channel);
-        let bend = |list: &[Event]| list.iter().find(|event| event.etype == EventType::PitchBend).map(|event| (event.channel, event.v1, event.v2, event.v3));
+        let bend =
+            |list: &[Event]| list.iter().find(|event| event.etype == EventType::PitchBend).map(|event| (event.channel, event.v1, event.v2, event.v3));
         let parts = [
-            of(now, EventType::ControllChange) != of(former, EventType::ControllChange),
-            of(now, EventType::Voice) != of(former, EventType::Voice),
-            channel(now).is_some() && channel(former).is_some() && channel(now) != channel(former),
-            bend(now) != bend(former),
+            of(&now, EventType::ControllChange) != of(&former, EventType::ControllChange),
+            of(&now, EventType::Voice) != of(&former, EventType::Voice),
+            channel(&now).is_some() && channel(&former).is_some() && channel(&now) != channel(&former),
+            bend(&now) != bend(&former),
         ];
         self.cuts += 1;
         self.other += usize::from(parts.contains(&true));
         for (place, part) in [&mut self.controllers, &mut self.program, &mut self.channel, &mut self.bend].into_iter().zip(parts) {
             *place += usize::from(part);
         }
-        let before: Vec<&Event> = events.iter().filter(|event| event.time < cut).collect();
         let (mut equal, mut unset) = (false, false);
         let mut look = |wanted: &dyn Fn(&Event) -> bool, value: &dyn Fn(&Event) -> isize| {
             let heard: Vec<_> = before.iter().filter(|event| wanted(event)).collect();
@@ -143,14 +150,5 @@ impl Figures {
         look(&|event| event.etype == EventType::PitchBend, &|_| 0);
         self.equal += usize::from(equal);
         self.unset += usize::from(unset);
-    }
-}
-
-/// Whether the full cut keeps the event.
-fn keeps(event: &Event, cut: isize) -> bool {
-    match event.etype {
-        EventType::Meta | EventType::SysEx => true,
-        EventType::NoteOn | EventType::Voice | EventType::ControllChange | EventType::PitchBend => event.time >= cut,
-        EventType::NoteOff | EventType::PitchBendRange | EventType::DirectSMF => false,
     }
 }

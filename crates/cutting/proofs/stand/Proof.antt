@@ -41,7 +41,7 @@ returns c =
     let f3 = r1 .before .before .before in
     let f2 = f3 .before in
     let f1 = f2 .before in
-    rw (c .replaced3 .ensures, r2 .replaced2 .ensures, r1 .replaced .ensures, c .before .counts3 .ensures, r2 .before .counts2 .ensures, r1 .before .counts .ensures, f3 .is-folded3 .ensures, f2 .is-folded2 .ensures, f1 .is-folded .ensures, back w64 (f1 .before .before .before .before .args .e .time) (c .before .before .struct-told3 .given .1 .0 .1))
+    rw (c .replaced3 .ensures, r2 .replaced2 .ensures, r1 .replaced .ensures, c .before .counts3 .ensures, r2 .before .counts2 .ensures, r1 .before .counts .ensures, f3 .is-folded3 .ensures, f2 .is-folded2 .ensures, f1 .is-folded .ensures, back w64 (f1 .before .before .before .before .args .e .time) (r1 .before .before .struct-told .given .1 .0 .1))
 
 pub stand-spec : {M : Type 1} → statement M
 stand-spec =
