@@ -5,32 +5,30 @@
 --     stood-more     what stands after it (`stood`)
 --     standing-last  what stands, as it is remembered
 use mathlib.Core.Path.{_≡_, refl, sym, ap, ap₂, _∙_}
-use mathlib.Core.Bool.{Bool, true, false, cond, not, _&&_, _||_, true≢false}
+use mathlib.Core.Bool.{Bool, true, false, cond, not, _&&_, _||_}
 use mathlib.Core.List.{List, [], _∷_, _++_}
 use mathlib.Core.Logic.{⊎-elim}
 use Prim.Native.Nat.{ℕ, _+_, _<_}
 use native.Mathlib.Numerals.{add-one}
-use lib.IntN.{ℤ, pos}
+use lib.IntN.{ℤ}
 use lib.ListN.{length, getD, take}
 use lib.Seq.{take-suc}
-use lib.Signed.{ltZ, leZ}
+use lib.Signed.{leZ}
 use Rattle.laws.proofs.Bools.{which, and-on, and-off}
-use Rattle.laws.proofs.Order.{lt-not-le}
+use Rattle.laws.proofs.Order.{lt-not-le, nlt-le}
 use Rattle.events.specs.declared.Event.{Event}
 use Rattle.events.specs.Events.{zeroEvent}
-use Rattle.events.specs.Kinds.{controlChange, pitchBend, voice}
+use Rattle.events.specs.Kinds.{pitchBend, voice}
 use Rattle.sorting.specs.Stable.{stableSort, Sorted}
 use Rattle.sorting.specs.Sorting.{earlier}
 use Rattle.sorting.proofs.Earlier.{earlier-asym, earlier-trans}
 use Rattle.sorting.proofs.Behind.{behind, Before, before-all, sort-more}
 use Rattle.sorting.proofs.Promises.{never-falls}
 use Rattle.cutting.specs.declared.Latest.{Latest}
-use Rattle.cutting.specs.declared.Standing.{Standing}
 use Rattle.cutting.specs.Choice.{lastOf}
-use Rattle.cutting.specs.Cuts.{unset, folds, tells}
+use Rattle.cutting.specs.Cuts.{folds, tells}
 use Rattle.cutting.specs.Passes.{lastsOf}
 use Rattle.cutting.specs.ByTime.{latestOf, countsAt, replacing, noProgram, standingAt, stood, lastIn}
-use Rattle.cutting.proofs.Folding.{before-it}
 
 pub last-map : {A B : Type 0} (g : A → B) (p : Event → Bool) (f : Event → A) (d : A) (es : List Event)
     → g (lastOf p f d es) ≡ lastOf p (λ x. g (f x)) (g d) es
@@ -40,13 +38,6 @@ last-map {A} {B} g p f d (x ∷ es) = last-map g p f (cond (p x) (f x) d) es ∙
     go : (t : Bool) → g (cond t (f x) d) ≡ cond t (g (f x)) (g d)
     go true = refl
     go false = refl
-
-pub not-later : (a b : ℤ) → ltZ a b ≡ false → leZ b a ≡ true
-not-later a b h = go (leZ b a) refl
-  where
-    go : (t : Bool) → leZ b a ≡ t → leZ b a ≡ true
-    go true q = q
-    go false q = absurd (true≢false (sym (before-it b a q) ∙ h))
 
 module _ {A : Type 0} (p : Event → Bool) (f : Event → A) where
   module _ (e : Event) where
@@ -77,7 +68,7 @@ module _ {A : Type 0} (p : Event → Bool) (f : Event → A) where
     last-behind (x ∷ s) d b h q =
         ⊎-elim
         (λ (k : earlier e x ≡ true). rw (k, q) (in-front (x ∷ s) d (k, before-all earlier earlier-asym earlier-trans e x s k (h .0))))
-        (λ (k : earlier e x ≡ false). rw k (last-behind s (cond (p x) (f x) d) (cond (p x) (leZ (x .time) (e .time)) b) (h .1) (go (p x) (not-later (e .time) (x .time) k))))
+        (λ (k : earlier e x ≡ false). rw k (last-behind s (cond (p x) (f x) d) (cond (p x) (leZ (x .time) (e .time)) b) (h .1) (go (p x) (nlt-le (e .time) (x .time) k))))
         (which (earlier e x))
       where
         go : (t : Bool) → leZ (x .time) (e .time) ≡ true → cond t (leZ (x .time) (e .time)) b ≡ true

@@ -1,18 +1,18 @@
 -- The rule of 02, a), said of the list as it stands (`Counts`), is what counts last in the sorted list.
 --     last-counts    what counts is the last in the sorted list,
 --     some-counts    and one counts, unless the test holds of none
+--     counts-also    and one of a wider test
 --     none-between   nothing of which the test holds is later than what counts
 use mathlib.Core.Path.{_≡_, refl, sym, ap, _∙_}
 use mathlib.Core.Bool.{Bool, true, false, cond, not, _&&_, _||_, true≢false}
 use mathlib.Core.List.{List, [], _∷_, _++_, append-assoc, append-nil}
 use mathlib.Core.Logic.{_⊎_, ⊎-elim, inl, inr}
-use lib.IntN.{ℤ}
 use lib.Signed.{ltZ, leZ}
 use Rattle.laws.specs.Lists.{all}
 use Rattle.laws.proofs.Bools.{which, and-off}
 use Rattle.laws.proofs.Every.{all-imply}
-use Rattle.laws.proofs.Order.{lt-not-le, le-not-lt, ltZ-asym, ltZ-irrefl, nltZ-trans}
-use Rattle.laws.proofs.Parts.{all-append}
+use Rattle.laws.proofs.Order.{lt-not-le, nlt-le, lt-le, le-lt-trans, ltZ-irrefl}
+use Rattle.laws.proofs.Parts.{all-append, all-last}
 use Rattle.laws.proofs.Ranges.{left, right}
 use Rattle.events.specs.declared.Event.{Event}
 use Rattle.sorting.specs.Stable.{stableSort}
@@ -20,7 +20,7 @@ use Rattle.sorting.specs.Sorting.{earlier}
 use Rattle.sorting.proofs.Sound.{all-sort}
 use Rattle.cutting.specs.Choice.{lastOf}
 use Rattle.cutting.specs.Counting.{Counts}
-use Rattle.cutting.proofs.ByTime.{last-map, last-sorted, not-later}
+use Rattle.cutting.proofs.ByTime.{last-map, last-sorted}
 
 -- ---- what counts is the last in the sorted list
 -- the one that counts, as a list of at most one, and what is read off it
@@ -81,22 +81,12 @@ follows : (b q r : Bool) → (q ≡ true → r ≡ true) → (not b || q) ≡ tr
 follows true q r f h = f h
 follows false q r f h = refl
 
-lt-le : (a b : ℤ) → ltZ a b ≡ true → leZ a b ≡ true
-lt-le a b h = not-later b a (ltZ-asym a b h)
-
-le-lt : (a b c : ℤ) → leZ a b ≡ true → ltZ b c ≡ true → ltZ a c ≡ true
-le-lt a b c h k = go (ltZ a c) refl
-  where
-    go : (t : Bool) → ltZ a c ≡ t → ltZ a c ≡ true
-    go true q = q
-    go false q = absurd (true≢false (sym k ∙ nltZ-trans c a b q (le-not-lt a b h)))
-
 module _ (p : Event → Bool) where
   pub none-between : (es : List Event) (k : Counts p es) → all (λ x. not (p x) || leZ (x .time) (k .event .time)) es ≡ true
   unfolding all
   none-between es k =
       let t = k .event .time in
-      let itself : (not (p (k .event)) || leZ t t) ≡ true = rw (k .holds) (not-later t t (ltZ-irrefl t)) in
+      let itself : (not (p (k .event)) || leZ t t) ≡ true = rw (k .holds) (nlt-le t t (ltZ-irrefl t)) in
       let rest = all-imply (λ x. not (p x) || ltZ (x .time) t) (λ x. not (p x) || leZ (x .time) t) (λ x. follows (p x) (ltZ (x .time) t) (leZ (x .time) t) (lt-le (x .time) t)) (k .behind) (k .all-earlier) in
       rw (k .splits) (all-append (λ x. not (p x) || leZ (x .time) t) (k .front) (k .event ∷ k .behind) (k .none-later) (rw itself rest))
 
@@ -132,8 +122,8 @@ module _ (p : Event → Bool) where
       (λ (q : ltZ t (x .time) ≡ true).
       inr (first x es h
       (all-imply (λ z. not (p z) || leZ (z .time) t) (λ z. not (p z) || ltZ (z .time) (x .time))
-      (λ z. follows (p z) (leZ (z .time) t) (ltZ (z .time) (x .time)) (λ m. le-lt (z .time) t (x .time) m q)) es (none-between es k))))
-      (λ (q : ltZ t (x .time) ≡ false). inr (after x es k (rw h (not-later t (x .time) q))))
+      (λ z. follows (p z) (leZ (z .time) t) (ltZ (z .time) (x .time)) (λ m. le-lt-trans (z .time) t (x .time) m q)) es (none-between es k))))
+      (λ (q : ltZ t (x .time) ≡ false). inr (after x es k (rw h (nlt-le t (x .time) q))))
       (which (ltZ t (x .time))))
       (λ (h : p x ≡ false). inr (after x es k (rw h)))
       (which (p x))
@@ -142,3 +132,12 @@ module _ (p : Event → Bool) where
   unfolding all
   some-counts [] = inl refl
   some-counts (x ∷ es) = one-or-none x es (some-counts es)
+
+pub counts-also : (p q : Event → Bool) → ((e : Event) → p e ≡ true → q e ≡ true) → (es : List Event) → Counts p es → Counts q es
+unfolding all
+counts-also p q f es k = ⊎-elim (λ none. absurd (true≢false (sym (here none) ∙ ap not (f (k .event) (k .holds))))) (λ c. c) (some-counts q es)
+  where
+    here : all (λ x. not (q x)) es ≡ true → not (q (k .event)) ≡ true
+    here none =
+        left (not (q (k .event))) (all (λ x. not (q x)) (k .behind))
+        (all-last (λ x. not (q x)) (k .front) (k .event ∷ k .behind) (rw (k .splits) at none))

@@ -3,10 +3,9 @@
 --     folds-alone    so it is folded as no other kind,
 --     control-kept, program-kept, bend-kept   and is not kept
 --     folds-early, folds-late   by the time alone: before the cut the kind decides, from it on nothing is folded
-use mathlib.Core.Path.{_≡_, refl}
-use mathlib.Core.Bool.{true, false, true≢false}
-use borrow.Author.Tests.{lt-ltb, leb-false}
-use lib.IntN.{ℤ, pos, negsuc}
+use mathlib.Core.Path.{_≡_}
+use mathlib.Core.Bool.{true, false}
+use lib.IntN.{ℤ}
 use lib.Signed.{ltZ, leZ}
 use Rattle.laws.specs.Integers.{eqZ}
 use Rattle.laws.proofs.Bits.{eqZ-true}
@@ -39,13 +38,6 @@ module _ (k at : ℤ) (e : Event) where
   pub folds-late : ltZ (e .time) at ≡ false → folds k at e ≡ false
   unfolding folds
   folds-late h = rw h (and-off (eqZ (e .kind) k))
-
--- not from the cut on is before it
-pub before-it : (at time : ℤ) → leZ at time ≡ false → ltZ time at ≡ true
-before-it (pos a) (pos b) e = lt-ltb b a (leb-false a b e)
-before-it (pos a) (negsuc b) e = refl
-before-it (negsuc a) (pos b) e = absurd (true≢false e)
-before-it (negsuc a) (negsuc b) e = lt-ltb a b (leb-false b a e)
 
 module _ (c : Cut) (e : Event) where
   pub control-kept : folds controlChange (c .at) e ≡ true → keeps c e ≡ false

@@ -2,13 +2,14 @@
 --     controller-folded, program-folded   what stood at a value before the cut is there at time 0 with it, in both cuts
 --     one-controller      and no second event of that controller is folded
 --     controller-latest, program-latest, bend-latest   in the full cut what stood is what the latest event before the cut says
+--     controller-tells, program-tells   and its channel is that of an event that counts
 --     nothing-folded      a cut with no event before it keeps what it keeps, shifted, and adds nothing
 --     as-formerly, falling-differs   the full cut of a list that never falls in time is the one that goes by list order (01, before 02, a); of one that falls it may differ
 --     sort-first          what is folded is the same of the sorted list
-use mathlib.Core.Path.{_≡_, refl, sym, ap, ap₂, _∙_, subst}
+use mathlib.Core.Path.{_≡_, refl, ap, ap₂, _∙_, subst}
 use mathlib.Core.Bool.{Bool, true, false, cond, not, _&&_}
 use mathlib.Core.List.{List, [], _∷_, _++_, append-nil, List·Memᴰ, List·Memᴰ·head, List·Memᴰ·tail, Memᴰ·append-left, Memᴰ·append-right}
-use Prim.Native.Nat.{ℕ, zero, suc, _+_, _≤_, _<_}
+use Prim.Native.Nat.{ℕ, zero, suc, _+_, _<_}
 use native.Mathlib.Omega.{arith}
 use borrow.Author.Tests.{eq-eqb, ne-eqb}
 use lib.Dec.{eqb}
@@ -18,10 +19,11 @@ use lib.Signed.{ltZ, leZ}
 use Rattle.laws.specs.Integers.{eqZ}
 use Rattle.laws.specs.Lists.{all, unless, without, putFirst}
 use Rattle.laws.specs.Rows.{flat}
-use Rattle.laws.proofs.Bools.{and-off}
+use Rattle.laws.proofs.Bools.{and-off, or-on}
 use Rattle.laws.proofs.Every.{all-imply}
 use Rattle.laws.proofs.Order.{le-not-lt}
 use Rattle.laws.proofs.Parts.{without-append}
+use Rattle.laws.proofs.Ranges.{left}
 use Rattle.events.specs.declared.Event.{Event}
 use Rattle.events.specs.Events.{zeroEvent, ccEvent, voiceEvent}
 use Rattle.events.specs.Kinds.{controlChange, pitchBend, voice}
@@ -35,7 +37,7 @@ use Rattle.cutting.specs.declared.Cut.{Cut}
 use Rattle.cutting.specs.Choice.{lastOf}
 use Rattle.cutting.specs.Counting.{Counts, formerCut}
 use Rattle.cutting.specs.Cuts.{controllers, unset, withTime, folds, controls, tells, controlAt, programAt, channelAt, bendAt, controlsFrom, programOn, inOrder, folded, keeps, shifted, keptOf, whole, cutOf, cutRefusal, cutTaken, cutLeft}
-use Rattle.cutting.proofs.Counting.{last-counts}
+use Rattle.cutting.proofs.Counting.{last-counts, counts-also}
 use Rattle.cutting.proofs.Folding.{folds-kind}
 use Rattle.cutting.proofs.Lasts.{last-none}
 use Rattle.cutting.proofs.Putting.{controls-same}
@@ -154,6 +156,14 @@ one-controller c es n h =
 
 -- ---- by time: what counts in the full cut (02, a)
 module _ (at : ℤ) (es : List Event) where
+  -- where a controller or a program counts, so does an event that gives the channel
+  pub controller-tells : (n : ℕ) → Counts (controls at n) es → Counts (tells at) es
+  controller-tells n =
+      counts-also (controls at n) (tells at) (λ e h. rw (left (folds controlChange at e) (eqZ (e .v1) (pos n)) h, or-on)) es
+
+  pub program-tells : Counts (folds voice at) es → Counts (tells at) es
+  program-tells = counts-also (folds voice at) (tells at) (λ e h. rw h) es
+
   channel-is : (j : Counts (tells at) es) → channelAt at (stableSort earlier es) ≡ j .event .channel
   channel-is j = last-counts (tells at) (λ e. e .channel) (pos 0) es j
 

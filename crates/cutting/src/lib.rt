@@ -3,20 +3,22 @@
 // the bend too and puts what it folds first. Both work in place, in passes over the list from front to back. In `play_from`
 // the last event in list order counts; in `full_cut` the latest, whatever the list's order.
 ghost use mathlib.Core.Path.{_≡_};
-ghost use mathlib.Core.Bool.{true, cond};
+ghost use mathlib.Core.Bool.{true, cond, not, _||_};
 ghost use mathlib.Core.List.{_++_};
 ghost use Prim.Native.Nat.{_+_, _≤_};
 ghost use lib.ListN.{length};
+ghost use lib.Signed.{leZ};
 ghost use Rattle.laws.specs.Lists.{all, putFirst};
 ghost use Rattle.numbers.specs.Ranges.{isTime, isEventTime};
 ghost use Rattle.events.specs.Events.{zeroEvent, okNumbered};
+ghost use Rattle.events.specs.Kinds.{controlChange};
 ghost use Rattle.eventlist.specs.Rows.{rowsOf, eventsOf};
 ghost use Rattle.cutting.specs.Value.{defaultOf, speaks, ccValue, ccAnswer};
 ghost use Rattle.sorting.specs.Stable.{stableSort};
 ghost use Rattle.sorting.specs.Sorting.{earlier};
 ghost use Rattle.cutting.specs.Cuts.{unset, withTime, folds, controlAt, inOrder, folded, keeps, shifted, keptOf, fitsCut, cutTaken, cutLeft, plain, whole};
 ghost use Rattle.cutting.specs.Passes.{sound, Holds, lastsOf, noted, stored, valued, partsOf, controlsIn, programIn, bendIn, withMore, turned};
-ghost use Rattle.cutting.specs.ByTime.{countsAt, replacing, stood, noneStands, lastIn, earliest, dated};
+ghost use Rattle.cutting.specs.ByTime.{replacing, stood, noneStands, lastIn, earliest, dated};
 use eventlist::Taken;
 use eventlist::WIDTH;
 use eventlist::append;
@@ -282,19 +284,12 @@ pub struct Latest {
     pub event: Event,
 }
 
-// Whether an event at `time` counts beside the latest so far: of equal times the later in the list does.
-fn counts(l: Latest, time: i64) -> bool
-    ensures { λ r. ⌜ r ≡ countsAt l time ⌝ }
+// The latest after one more of those events, where `since` is the time of the latest so far: of equal times the later in
+// the list counts.
+fn later(l: Latest, e: Event, since: i64) -> Latest
+    ensures { λ r. ⌜ r ≡ replacing l e (not (l .found) || leZ since (e .time)) ⌝ }
 {
-    let held = l.event;
-    !l.found | (held.time <= time)
-}
-
-// The latest after one more event, of which `does` says whether it counts.
-fn replaced(l: Latest, e: Event, does: bool) -> Latest
-    ensures { λ r. ⌜ r ≡ replacing l e does ⌝ }
-{
-    if does {
+    if !l.found | (since <= e.time) {
         return Latest {
             found: true,
             event: e,
@@ -328,27 +323,37 @@ fn none_stands() -> Standing
     }
 }
 
-// Whether the event is of the kind and before the cut.
-fn is_folded(e: Event, kind: i64, c: Cut) -> bool
-    ensures { λ r. ⌜ r ≡ folds kind (c .at) e ⌝ }
-{
-    (e.kind == kind) & (e.time < c.at)
-}
-
 // What stands after one more event.
 fn stand(s: Standing, e: Event, c: Cut) -> Standing
     ensures { λ r. ⌜ r ≡ stood (c .at) s e ⌝ }
 {
+    if c.at <= e.time {
+        return s;
+    }
     let program = s.program;
     let channel = s.channel;
     let bend = s.bend;
-    let voice = is_folded(e, VOICE, c);
-    let told = voice | is_folded(e, CONTROL_CHANGE, c);
-    let bends = is_folded(e, PITCH_BEND, c);
-    Standing {
-        program: replaced(program, e, voice & counts(program, e.time)),
-        channel: replaced(channel, e, told & counts(channel, e.time)),
-        bend: replaced(bend, e, bends & counts(bend, e.time)),
+    let p = program.event;
+    let h = channel.event;
+    let b = bend.event;
+    let kind = e.kind;
+    match kind {
+        VOICE => Standing {
+            program: later(program, e, p.time),
+            channel: later(channel, e, h.time),
+            bend: bend,
+        },
+        CONTROL_CHANGE => Standing {
+            program: program,
+            channel: later(channel, e, h.time),
+            bend: bend,
+        },
+        PITCH_BEND => Standing {
+            program: program,
+            channel: channel,
+            bend: later(bend, e, b.time),
+        },
+        _ => s,
     }
 }
 
@@ -360,13 +365,24 @@ fn last_of(s: Standing) -> Last
     let channel = s.channel;
     let bend = s.bend;
     let p = program.event;
-    let c = channel.event;
-    let b = bend.event;
+    let told = channel.event;
+    let last = bend.event;
     Last {
         program: p.v1,
-        channel: c.channel,
+        channel: told.channel,
         bent: bend.found,
-        bend: b,
+        bend: last,
+    }
+}
+
+// Whether the event is a controller's before the cut.
+fn is_control(e: Event, c: Cut) -> bool
+    ensures { λ r. ⌜ r ≡ folds controlChange (c .at) e ⌝ }
+{
+    let kind = e.kind;
+    match kind {
+        CONTROL_CHANGE => e.time < c.at,
+        _ => false,
     }
 }
 
@@ -379,7 +395,7 @@ fn note_latest(values: &mut [i64; 128], times: &mut [i64; 128], e: Event, c: Cut
     ensures { λ r. ⌜ (now (values .exit) ≡ stored (dated (c .at) (now (times .entry)) e) (e .v1) (e .v2) (now (values .entry)))
         × (now (times .exit) ≡ stored (dated (c .at) (now (times .entry)) e) (e .v1) (e .time) (now (times .entry))) ⌝ }
 {
-    if is_folded(e, CONTROL_CHANGE, c) {
+    if is_control(e, c) {
         let k = e.v1 as usize;
         let t = e.time;
         let v = e.v2;

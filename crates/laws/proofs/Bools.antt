@@ -1,6 +1,6 @@
 -- A Bool by cases, and a test joined with one that is known.
 use mathlib.Core.Path.{_≡_, refl}
-use mathlib.Core.Bool.{Bool, true, false, _&&_}
+use mathlib.Core.Bool.{Bool, true, false, _&&_, _||_}
 use mathlib.Core.Logic.{_⊎_, inl, inr}
 
 pub which : (t : Bool) → (t ≡ true) ⊎ (t ≡ false)
@@ -14,3 +14,7 @@ and-on false = refl
 pub and-off : (b : Bool) → (b && false) ≡ false
 and-off true = refl
 and-off false = refl
+
+pub or-on : (b : Bool) → (b || true) ≡ true
+or-on true = refl
+or-on false = refl

@@ -1,10 +1,10 @@
 -- Signed numbers by size, as the stable sort asks it of an order: one way only, and `not after` goes through.
-use mathlib.Core.Bool.{true, false}
-use mathlib.Core.Path.{_≡_, refl}
+use mathlib.Core.Bool.{Bool, true, false, true≢false}
+use mathlib.Core.Path.{_≡_, refl, sym, _∙_}
 use native.Mathlib.Omega.{arith}
 use lib.IntN.{ℤ, pos, negsuc}
 use lib.Signed.{ltZ, leZ}
-use borrow.Author.Tests.{ltb-true, ltb-false, le-ltb, leb-true, lt-leb}
+use borrow.Author.Tests.{ltb-true, ltb-false, le-ltb, lt-ltb, leb-true, leb-false, lt-leb}
 
 pub ltZ-asym : (a b : ℤ) → ltZ a b ≡ true → ltZ b a ≡ false
 ltZ-asym (pos a) (pos b) h = le-ltb b a (let k = ltb-true a b h in omega arith)
@@ -39,3 +39,27 @@ le-not-lt (pos a) (pos b) h = le-ltb b a (leb-true a b h)
 le-not-lt (pos a) (negsuc b) h = cc
 le-not-lt (negsuc a) (pos b) h = refl
 le-not-lt (negsuc a) (negsuc b) h = le-ltb a b (leb-true b a h)
+
+pub nle-lt : (a b : ℤ) → leZ a b ≡ false → ltZ b a ≡ true
+nle-lt (pos a) (pos b) e = lt-ltb b a (leb-false a b e)
+nle-lt (pos a) (negsuc b) e = refl
+nle-lt (negsuc a) (pos b) e = absurd (true≢false e)
+nle-lt (negsuc a) (negsuc b) e = lt-ltb a b (leb-false b a e)
+
+pub nlt-le : (a b : ℤ) → ltZ a b ≡ false → leZ b a ≡ true
+nlt-le a b h = go (leZ b a) refl
+  where
+    go : (t : Bool) → leZ b a ≡ t → leZ b a ≡ true
+    go true q = q
+    go false q = absurd (true≢false (sym (nle-lt b a q) ∙ h))
+
+pub lt-le : (a b : ℤ) → ltZ a b ≡ true → leZ a b ≡ true
+lt-le a b h = nlt-le b a (ltZ-asym a b h)
+
+-- a ≤ b < c
+pub le-lt-trans : (a b c : ℤ) → leZ a b ≡ true → ltZ b c ≡ true → ltZ a c ≡ true
+le-lt-trans a b c h k = go (ltZ a c) refl
+  where
+    go : (t : Bool) → ltZ a c ≡ t → ltZ a c ≡ true
+    go true q = q
+    go false q = absurd (true≢false (sym k ∙ nltZ-trans c a b q (le-not-lt a b h)))

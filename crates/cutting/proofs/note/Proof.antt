@@ -9,12 +9,12 @@ use mir.Val.{SFits, toZ, ofZ}
 use Rattle.laws.specs.Integers.{eqZ}
 use Rattle.laws.proofs.Bits.{bits-eq, bits-differ}
 use Rattle.laws.proofs.Fitting.{back}
-use Rattle.laws.proofs.Order.{le-not-lt}
+use Rattle.laws.proofs.Order.{le-not-lt, nle-lt}
 use Rattle.events.specs.declared.Event.{Event}
 use Rattle.events.specs.Kinds.{controlChange, pitchBend, voice}
 use Rattle.cutting.specs.Cuts.{folds}
 use Rattle.cutting.specs.Passes.{noted}
-use Rattle.cutting.proofs.Folding.{folds-alone, folds-early, folds-late, before-it}
+use Rattle.cutting.proofs.Folding.{folds-alone, folds-early, folds-late}
 use Rattle.cutting.proofs.note.Statement.{statement}
 use Rattle.cutting.proofs.note.Tie as tie
 
@@ -50,7 +50,7 @@ module _ (t : tie.After-struct-told3) where
   kind-fits = record { sfits = t .struct-told3 .given .0 .1 }
 
   early : ltZ (e .time) at ≡ true
-  early = before-it at (e .time) (sym (read (t .before .before .before)) ∙ t .before .before .if1 .left)
+  early = nle-lt at (e .time) (sym (read (t .before .before .before)) ∙ t .before .before .if1 .left)
 
   is : (k : ℤ) → e .kind ≡ k → folds k at e ≡ eqZ k k
   is k q = folds-early k at e early ∙ ap (λ (z : ℤ). eqZ z k) q

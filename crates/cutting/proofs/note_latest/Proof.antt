@@ -5,7 +5,7 @@ use mathlib.Core.Bool.{true}
 use Prim.Native.Nat.{ℕ, _<_}
 use native.Mathlib.Omega.{arith}
 use lib.Dec.{T}
-use lib.IntN.{ℤ, pos, natAbs}
+use lib.IntN.{pos, natAbs}
 use lib.ListN.{getD}
 use lib.Signed.{nonNeg, leZ}
 use mir.Syntax.{w64}
@@ -29,7 +29,7 @@ module _ (m : tie.Then1) where
   e = s .args .e
 
   is : folds controlChange (s .args .c .at) e ≡ true
-  is = sym (m .before .is-folded .ensures) ∙ m .if1 .taken
+  is = sym (m .before .is-control .ensures) ∙ m .if1 .taken
 
   up : T (nonNeg (e .v1)) × (natAbs (e .v1) < 128)
   up = controller-up (e .v1) (numbered (s .args .c .at) e (s .pre) is)
@@ -68,8 +68,8 @@ module _ (b : tie.After-if22) where
       (back w64 (getD (a .args .times .now) (natAbs (toZ w64 (ofZ w64 (a .args .e .v1)))) (pos 0)) (b .if22 .given) ∙ ap (λ (k : ℕ). getD (a .args .times .now) k (pos 0)) at-place)
       (back w64 (a .args .e .time) (t .struct-told .given .1 .0 .1)))
 
-is-folded-requires : tie.Need-is-folded-requires
-is-folded-requires c κs = search needs
+is-control-requires : tie.Need-is-control-requires
+is-control-requires c κs = search needs
 
 cast-k : tie.Need-cast-k
 cast-k c = rw (number c) (up (m c) .0, let u = up (m c) .1 in omega arith)
@@ -105,13 +105,13 @@ returns-2 c = let q = sym (read (c .before)) ∙ c .if2 .left in (rw q, rw q)
 
 returns-3 : tie.Need-returns-3
 unfolding dated
-returns-3 c = let f = sym (c .before .is-folded .ensures) ∙ c .if1 .left in (rw f, rw f)
+returns-3 c = let f = sym (c .before .is-control .ensures) ∙ c .if1 .left in (rw f, rw f)
 
 pub note-latest-spec : {M : Type 1} → statement M
 note-latest-spec =
     tie.close
     (tie.spec
-    is-folded-requires
+    is-control-requires
     cast-k
     mul-if2
     element-copy-out-if2

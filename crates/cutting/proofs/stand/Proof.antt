@@ -1,59 +1,149 @@
--- `stand` meets its contract: each of the three is replaced where its test holds and it counts.
+-- `stand` meets its contract: from the cut on nothing is folded, and before it an event is folded as its kind alone (`folds-alone`).
 use borrow.Author.Needs.{needs}
+use mathlib.Core.Path.{_≡_, refl, sym, ap, ap₂, _∙_}
+use mathlib.Core.Bool.{true}
+use lib.Dec.{lit<}
+use lib.IntN.{ℤ}
+use lib.Signed.{ltZ, leZ}
 use mir.Syntax.{w64}
+use mir.Val.{SFits, toZ, ofZ}
+use Rattle.laws.specs.Integers.{eqZ}
+use Rattle.laws.proofs.Bits.{bits-eq, bits-differ}
 use Rattle.laws.proofs.Fitting.{back}
+use Rattle.laws.proofs.Order.{le-not-lt, nle-lt}
+use Rattle.events.specs.declared.Event.{Event}
+use Rattle.events.specs.Kinds.{controlChange, pitchBend, voice}
+use Rattle.cutting.specs.Cuts.{folds}
 use Rattle.cutting.specs.ByTime.{stood}
+use Rattle.cutting.proofs.Folding.{folds-alone, folds-early, folds-late}
 use Rattle.cutting.proofs.stand.Statement.{statement}
 use Rattle.cutting.proofs.stand.Tie as tie
 
-is-folded-requires : tie.Need-is-folded-requires
-is-folded-requires c κs = search needs
+control : SFits w64 controlChange
+control = record { sfits = lit< tt }
 
-is-folded-requires-2 : tie.Need-is-folded-requires-2
-is-folded-requires-2 c κs = search needs
+bends : SFits w64 pitchBend
+bends = record { sfits = lit< tt }
 
-is-folded-requires-3 : tie.Need-is-folded-requires-3
-is-folded-requires-3 c κs = search needs
+program : SFits w64 voice
+program = record { sfits = lit< tt }
 
-counts-requires : tie.Need-counts-requires
-counts-requires c κs = search needs
+-- the test of the time, of the numbers themselves
+module _ (b : tie.After-struct-told2) where
+  abbrev s : tie.Start
+  s = b .before .before .before .before
 
-replaced-requires : tie.Need-replaced-requires
-replaced-requires c κs = search needs
+  read : leZ (toZ w64 (ofZ w64 (s .args .c .at))) (toZ w64 (ofZ w64 (s .args .e .time))) ≡ leZ (s .args .c .at) (s .args .e .time)
+  read = ap₂ leZ (back w64 (s .args .c .at) (b .before .before .struct-told .given .0 .1)) (back w64 (s .args .e .time) (b .struct-told2 .given .1 .0 .1))
 
-counts-requires-2 : tie.Need-counts-requires-2
-counts-requires-2 c κs = search needs
+-- before the cut: the event's kind decides
+module _ (t : tie.After-struct-told3) where
+  abbrev past : tie.Else1
+  past = t .before .before .before .before .before .before .before
 
-replaced-requires-2 : tie.Need-replaced-requires-2
-replaced-requires-2 c κs = search needs
+  abbrev start : tie.Start
+  start = s (past .before)
 
-counts-requires-3 : tie.Need-counts-requires-3
-counts-requires-3 c κs = search needs
+  abbrev at : ℤ
+  at = start .args .c .at
 
-replaced-requires-3 : tie.Need-replaced-requires-3
-replaced-requires-3 c κs = search needs
+  abbrev e : Event
+  e = start .args .e
+
+  kind-fits : SFits w64 (e .kind)
+  kind-fits = record { sfits = t .struct-told3 .given .0 .1 }
+
+  early : ltZ (e .time) at ≡ true
+  early = nle-lt at (e .time) (sym (read (past .before)) ∙ past .if1 .left)
+
+  is : (k : ℤ) → e .kind ≡ k → folds k at e ≡ eqZ k k
+  is k q = folds-early k at e early ∙ ap (λ (z : ℤ). eqZ z k) q
+
+later-requires : tie.Need-later-requires
+later-requires c κs = search needs
+
+later-requires-2 : tie.Need-later-requires-2
+later-requires-2 c κs = search needs
+
+later-requires-3 : tie.Need-later-requires-3
+later-requires-3 c κs = search needs
+
+later-requires-4 : tie.Need-later-requires-4
+later-requires-4 c κs = search needs
 
 returns : tie.Need-returns
 unfolding stood
 returns c =
-    let r2 = c .before .before .before in
-    let r1 = r2 .before .before .before in
-    let f3 = r1 .before .before .before in
-    let f2 = f3 .before in
-    let f1 = f2 .before in
-    rw (c .replaced3 .ensures, r2 .replaced2 .ensures, r1 .replaced .ensures, c .before .counts3 .ensures, r2 .before .counts2 .ensures, r1 .before .counts .ensures, f3 .is-folded3 .ensures, f2 .is-folded2 .ensures, f1 .is-folded .ensures, back w64 (f1 .before .before .before .before .args .e .time) (r1 .before .before .struct-told .given .1 .0 .1))
+    let a = s (c .before) .args in
+    let late = le-not-lt (a .c .at) (a .e .time) (sym (read (c .before)) ∙ c .if1 .taken) in
+    rw (folds-late voice (a .c .at) (a .e) late, folds-late controlChange (a .c .at) (a .e) late, folds-late pitchBend (a .c .at) (a .e) late)
+
+returns-2 : tie.Need-returns-2
+unfolding stood
+returns-2 c =
+    let first = c .before .before in
+    let m = first .before .before in
+    let t = m .before in
+    let a = start t .args .s in
+    let f = is t voice (bits-eq (kind-fits t) program (m .match .keys1)) in
+    rw (
+      first .later .ensures,
+      c .later2 .ensures,
+      f,
+      folds-alone voice (at t) (e t) f pitchBend refl,
+      back w64 (a .program .event .time) (first .before .struct-told4 .given .1 .0 .1),
+      back w64 (a .channel .event .time) (c .before .struct-told5 .given .1 .0 .1),
+    )
+
+returns-3 : tie.Need-returns-3
+unfolding stood
+returns-3 c =
+    let m = c .before .before in
+    let t = m .before in
+    let f = is t controlChange (bits-eq (kind-fits t) control (m .match .keys2)) in
+    rw (
+      c .later3 .ensures,
+      folds-alone controlChange (at t) (e t) f voice refl,
+      f,
+      folds-alone controlChange (at t) (e t) f pitchBend refl,
+      back w64 (start t .args .s .channel .event .time) (c .before .struct-told6 .given .1 .0 .1),
+    )
+
+returns-4 : tie.Need-returns-4
+unfolding stood
+returns-4 c =
+    let m = c .before .before in
+    let t = m .before in
+    let f = is t pitchBend (bits-eq (kind-fits t) bends (m .match .keys3)) in
+    rw (
+      c .later4 .ensures,
+      folds-alone pitchBend (at t) (e t) f voice refl,
+      folds-alone pitchBend (at t) (e t) f controlChange refl,
+      f,
+      back w64 (start t .args .s .bend .event .time) (c .before .struct-told7 .given .1 .0 .1),
+    )
+
+returns-5 : tie.Need-returns-5
+unfolding stood
+returns-5 c =
+    let t = c .before in
+    let r = c .match .rest in
+    rw (
+      folds-early voice (at t) (e t) (early t) ∙ bits-differ (kind-fits t) program (r .0 .0 .1),
+      folds-early controlChange (at t) (e t) (early t) ∙ bits-differ (kind-fits t) control (r .0 .1),
+      folds-early pitchBend (at t) (e t) (early t) ∙ bits-differ (kind-fits t) bends (r .1),
+    )
 
 pub stand-spec : {M : Type 1} → statement M
 stand-spec =
     tie.close
     (tie.spec
-    is-folded-requires
-    is-folded-requires-2
-    is-folded-requires-3
-    counts-requires
-    replaced-requires
-    counts-requires-2
-    replaced-requires-2
-    counts-requires-3
-    replaced-requires-3
-    returns)
+    returns
+    later-requires
+    later-requires-2
+    later-requires-3
+    later-requires-4
+    returns-2
+    returns-3
+    returns-4
+    returns-5)
