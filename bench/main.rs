@@ -2,6 +2,9 @@
 // run is compared. docs/PERFORMANCE.md says how the lists are made and what the figures were. All of it runs in a thread whose stack is the least that a product gives.
 // With `curves SEED COUNT` or `sines SEED COUNT` nothing is timed: values are compared.
 
+#[path = "../oracle/cut.rs"]
+#[allow(dead_code)]
+mod cut;
 #[path = "../target/bench/original.rs"]
 mod original;
 mod port;
@@ -101,10 +104,10 @@ fn track(events: &[Event]) -> original::Track {
     track
 }
 
-fn same(track: &original::Track, list: &[i64], count: usize) -> bool {
+fn same(events: &[Event], list: &[i64], count: usize) -> bool {
     let records = list.chunks_exact(8).take(count);
-    track.events.len() == count
-        && track.events.iter().zip(records).all(|(e, r)| [kind(e), e.time as i64, e.channel as i64, e.v1 as i64, e.v2 as i64, e.v3 as i64] == r[..6])
+    events.len() == count
+        && events.iter().zip(records).all(|(e, r)| [kind(e), e.time as i64, e.channel as i64, e.v1 as i64, e.v2 as i64, e.v3 as i64] == r[..6])
 }
 
 extern "C" {
@@ -128,6 +131,18 @@ fn median(mut times: Vec<f64>) -> f64 {
 
 /// One case: a fresh copy of the list for each run, which is not timed; the two sides take turns. The port's list has room for `times` as many events as it holds.
 fn case(name: &str, events: &[Event], times: usize, theirs: impl Fn(&mut original::Track), ours: impl Fn(&mut [i64], usize) -> usize) {
+    beside(name, events, times, theirs, ours, |track, list, count| same(&track.events, list, count));
+}
+
+/// The same where the port's list is not the original's: `right` says of the first run whether it is what it should be.
+fn beside(
+    name: &str,
+    events: &[Event],
+    times: usize,
+    theirs: impl Fn(&mut original::Track),
+    ours: impl Fn(&mut [i64], usize) -> usize,
+    right: impl Fn(&original::Track, &[i64], usize) -> bool,
+) {
     let written = numbers(events, times);
     let long = events.len() > LONG;
     let runs = if long { 31 } else { 1001 };
@@ -142,7 +157,7 @@ fn case(name: &str, events: &[Event], times: usize, theirs: impl Fn(&mut origina
         let begun = clock(long);
         let count = ours(&mut list, events.len());
         port.push(clock(long) - begun);
-        assert!(run > 0 || same(&track, &list, count), "{name}: the lists differ");
+        assert!(run > 0 || right(&track, &list, count), "{name}: the lists differ");
     }
     let (original, port) = (median(original), median(port));
     println!("| {name} | {} | {original:.1} | {port:.1} | {:.2} |", events.len(), port / original);
@@ -221,13 +236,24 @@ fn speeds() {
             |track| track.remove_pitch_bend_in_range(from, to),
             |list, n| unsafe { bench_remove_pitch_bend_in_range(list.as_mut_ptr(), list.len(), n, from as i64, to as i64, store, bytes) },
         );
-        case(
-            "play_from, the middle",
-            &rising,
-            1,
-            |track| track.play_from(end / 2),
-            |list, n| unsafe { bench_play_from(list.as_mut_ptr(), list.len(), n, end as i64 / 2, store, bytes) },
-        );
+        for (order, events) in [("", &rising), (", of a list in no order", &list(count, Order::Random))] {
+            case(
+                &format!("play_from, the middle{order}"),
+                events,
+                1,
+                |track| track.play_from(end / 2),
+                |list, n| unsafe { bench_play_from(list.as_mut_ptr(), list.len(), n, end as i64 / 2, store, bytes) },
+            );
+            // The original has no full cut: its plain one of the same list stands beside it.
+            beside(
+                &format!("full_cut, the middle{order}, beside the Rust's play_from"),
+                events,
+                1,
+                |track| track.play_from(end / 2),
+                |list, n| unsafe { bench_full_cut(list.as_mut_ptr(), list.len(), n, end as i64 / 2, store, bytes) },
+                |_, list, n| same(&cut::full_cut(events, end / 2), list, n),
+            );
+        }
         case(
             "normalize",
             &rising,
