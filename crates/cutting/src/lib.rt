@@ -336,22 +336,25 @@ fn stand(s: Standing, e: Event, c: Cut) -> Standing
     let p = program.event;
     let h = channel.event;
     let b = bend.event;
+    let programmed = p.time;
+    let told = h.time;
+    let bent = b.time;
     let kind = e.kind;
     match kind {
         VOICE => Standing {
-            program: later(program, e, p.time),
-            channel: later(channel, e, h.time),
+            program: later(program, e, programmed),
+            channel: later(channel, e, told),
             bend: bend,
         },
         CONTROL_CHANGE => Standing {
             program: program,
-            channel: later(channel, e, h.time),
+            channel: later(channel, e, told),
             bend: bend,
         },
         PITCH_BEND => Standing {
             program: program,
             channel: channel,
-            bend: later(bend, e, b.time),
+            bend: later(bend, e, bent),
         },
         _ => s,
     }

@@ -36,10 +36,13 @@ module _ (b : tie.After-struct-told2) where
   read : leZ (toZ w64 (ofZ w64 (s .args .c .at))) (toZ w64 (ofZ w64 (s .args .e .time))) ≡ leZ (s .args .c .at) (s .args .e .time)
   read = ap₂ leZ (back w64 (s .args .c .at) (b .before .before .struct-told .given .0 .1)) (back w64 (s .args .e .time) (b .struct-told2 .given .1 .0 .1))
 
--- before the cut: the event's kind decides
-module _ (t : tie.After-struct-told3) where
+-- before the cut: the times that count so far are read, and the event's kind decides
+module _ (t : tie.After-struct-told6) where
+  abbrev times : tie.After-struct-told5
+  times = t .before
+
   abbrev past : tie.Else1
-  past = t .before .before .before .before .before .before .before
+  past = times .before .before .before .before .before .before .before .before .before
 
   abbrev start : tie.Start
   start = s (past .before)
@@ -51,10 +54,19 @@ module _ (t : tie.After-struct-told3) where
   e = start .args .e
 
   kind-fits : SFits w64 (e .kind)
-  kind-fits = record { sfits = t .struct-told3 .given .0 .1 }
+  kind-fits = record { sfits = t .struct-told6 .given .0 .1 }
 
   early : ltZ (e .time) at ≡ true
   early = nle-lt at (e .time) (sym (read (past .before)) ∙ past .if1 .left)
+
+  programmed : toZ w64 (ofZ w64 (start .args .s .program .event .time)) ≡ start .args .s .program .event .time
+  programmed = back w64 (start .args .s .program .event .time) (times .before .before .struct-told3 .given .1 .0 .1)
+
+  told : toZ w64 (ofZ w64 (start .args .s .channel .event .time)) ≡ start .args .s .channel .event .time
+  told = back w64 (start .args .s .channel .event .time) (times .before .struct-told4 .given .1 .0 .1)
+
+  bent : toZ w64 (ofZ w64 (start .args .s .bend .event .time)) ≡ start .args .s .bend .event .time
+  bent = back w64 (start .args .s .bend .event .time) (times .struct-told5 .given .1 .0 .1)
 
   is : (k : ℤ) → e .kind ≡ k → folds k at e ≡ eqZ k k
   is k q = folds-early k at e early ∙ ap (λ (z : ℤ). eqZ z k) q
@@ -81,47 +93,26 @@ returns c =
 returns-2 : tie.Need-returns-2
 unfolding stood
 returns-2 c =
-    let first = c .before .before in
-    let m = first .before .before in
+    let m = c .before .before in
     let t = m .before in
-    let a = start t .args .s in
     let f = is t voice (bits-eq (kind-fits t) program (m .match .keys1)) in
-    rw (
-      first .later .ensures,
-      c .later2 .ensures,
-      f,
-      folds-alone voice (at t) (e t) f pitchBend refl,
-      back w64 (a .program .event .time) (first .before .struct-told4 .given .1 .0 .1),
-      back w64 (a .channel .event .time) (c .before .struct-told5 .given .1 .0 .1),
-    )
+    rw (c .before .later .ensures, c .later2 .ensures, f, folds-alone voice (at t) (e t) f pitchBend refl, programmed t, told t)
 
 returns-3 : tie.Need-returns-3
 unfolding stood
 returns-3 c =
-    let m = c .before .before in
+    let m = c .before in
     let t = m .before in
     let f = is t controlChange (bits-eq (kind-fits t) control (m .match .keys2)) in
-    rw (
-      c .later3 .ensures,
-      folds-alone controlChange (at t) (e t) f voice refl,
-      f,
-      folds-alone controlChange (at t) (e t) f pitchBend refl,
-      back w64 (start t .args .s .channel .event .time) (c .before .struct-told6 .given .1 .0 .1),
-    )
+    rw (c .later3 .ensures, folds-alone controlChange (at t) (e t) f voice refl, f, folds-alone controlChange (at t) (e t) f pitchBend refl, told t)
 
 returns-4 : tie.Need-returns-4
 unfolding stood
 returns-4 c =
-    let m = c .before .before in
+    let m = c .before in
     let t = m .before in
     let f = is t pitchBend (bits-eq (kind-fits t) bends (m .match .keys3)) in
-    rw (
-      c .later4 .ensures,
-      folds-alone pitchBend (at t) (e t) f voice refl,
-      folds-alone pitchBend (at t) (e t) f controlChange refl,
-      f,
-      back w64 (start t .args .s .bend .event .time) (c .before .struct-told7 .given .1 .0 .1),
-    )
+    rw (c .later4 .ensures, folds-alone pitchBend (at t) (e t) f voice refl, folds-alone pitchBend (at t) (e t) f controlChange refl, f, bent t)
 
 returns-5 : tie.Need-returns-5
 unfolding stood
