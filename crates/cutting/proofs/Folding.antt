@@ -3,12 +3,13 @@
 --     folds-alone    so it is folded as no other kind,
 --     control-kept, program-kept, bend-kept   and is not kept
 --     folds-early, folds-late   by the time alone: before the cut the kind decides, from it on nothing is folded
-use mathlib.Core.Path.{_≡_}
+--     folds-is       before the cut an event of the kind is folded
+use mathlib.Core.Path.{_≡_, _∙_}
 use mathlib.Core.Bool.{true, false}
 use lib.IntN.{ℤ}
 use lib.Signed.{ltZ, leZ}
 use Rattle.laws.specs.Integers.{eqZ}
-use Rattle.laws.proofs.Bits.{eqZ-true}
+use Rattle.laws.proofs.Bits.{eqZ-true, eqZ-refl}
 use Rattle.laws.proofs.Bools.{and-on, and-off}
 use Rattle.laws.proofs.Order.{lt-not-le}
 use Rattle.laws.proofs.Ranges.{left, right}
@@ -34,6 +35,9 @@ module _ (k at : ℤ) (e : Event) where
   pub folds-early : ltZ (e .time) at ≡ true → folds k at e ≡ eqZ (e .kind) k
   unfolding folds
   folds-early h = rw h (and-on (eqZ (e .kind) k))
+
+  pub folds-is : ltZ (e .time) at ≡ true → e .kind ≡ k → folds k at e ≡ true
+  folds-is h q = folds-early h ∙ rw q (eqZ-refl k)
 
   pub folds-late : ltZ (e .time) at ≡ false → folds k at e ≡ false
   unfolding folds

@@ -1,5 +1,6 @@
 pub mod Lasts
 pub mod ByTime
+pub mod KindBits
 pub mod Folding
 pub mod Room
 pub mod Stored

@@ -1,19 +1,14 @@
 -- `is_asked` meets its contract: every test is made on the bits, and each answers its part of the definition.
 use mathlib.Core.Path.{ap₂}
-use lib.Dec.{lit<}
 use lib.Signed.{leZ}
 use mir.Syntax.{w64}
-use mir.Val.{SFits}
 use Rattle.laws.proofs.Fitting.{fit, back}
 use Rattle.laws.proofs.Bits.{flag}
 use Rattle.laws.proofs.Tests.{both}
-use Rattle.events.specs.Kinds.{controlChange}
 use Rattle.cutting.specs.Value.{speaks}
+use Rattle.cutting.proofs.KindBits.{control-fits}
 use Rattle.cutting.proofs.is_asked.Statement.{statement}
 use Rattle.cutting.proofs.is_asked.Tie as tie
-
-constant : SFits w64 controlChange
-constant = record { sfits = lit< tt }
 
 returns : tie.Need-returns
 unfolding speaks
@@ -27,7 +22,7 @@ returns c =
     both
     (both
     (both
-    (flag (fit w64 (x .kind) (e .0 .1)) constant)
+    (flag (fit w64 (x .kind) (e .0 .1)) control-fits)
     (flag (fit w64 (x .channel) (e .1 .1 .0 .1)) (fit w64 (y .channel) (a .0 .1))))
     (flag (fit w64 (x .v1) (e .1 .1 .1 .0 .1)) (fit w64 (y .number) (a .1 .1 .0 .1))))
     (ap₂ leZ (back w64 (x .time) (e .1 .0 .1)) (back w64 (y .time) (a .1 .0 .1)))

@@ -1,12 +1,10 @@
 -- `note` meets its contract: from the cut on nothing is folded, and before it an event is folded as its kind alone (`folds-alone`).
-use mathlib.Core.Path.{_≡_, refl, sym, ap, ap₂, _∙_}
+use mathlib.Core.Path.{_≡_, refl, sym, ap₂, _∙_}
 use mathlib.Core.Bool.{true}
-use lib.Dec.{lit<}
 use lib.IntN.{ℤ}
 use lib.Signed.{ltZ, leZ}
 use mir.Syntax.{w64}
 use mir.Val.{SFits, toZ, ofZ}
-use Rattle.laws.specs.Integers.{eqZ}
 use Rattle.laws.proofs.Bits.{bits-eq, bits-differ}
 use Rattle.laws.proofs.Fitting.{back}
 use Rattle.laws.proofs.Order.{le-not-lt, nle-lt}
@@ -14,18 +12,10 @@ use Rattle.events.specs.declared.Event.{Event}
 use Rattle.events.specs.Kinds.{controlChange, pitchBend, voice}
 use Rattle.cutting.specs.Cuts.{folds}
 use Rattle.cutting.specs.Passes.{noted}
-use Rattle.cutting.proofs.Folding.{folds-alone, folds-early, folds-late}
+use Rattle.cutting.proofs.Folding.{folds-alone, folds-early, folds-late, folds-is}
+use Rattle.cutting.proofs.KindBits.{control-fits, bend-fits, program-fits}
 use Rattle.cutting.proofs.note.Statement.{statement}
 use Rattle.cutting.proofs.note.Tie as tie
-
-control : SFits w64 controlChange
-control = record { sfits = lit< tt }
-
-bend : SFits w64 pitchBend
-bend = record { sfits = lit< tt }
-
-program : SFits w64 voice
-program = record { sfits = lit< tt }
 
 -- the test of the time, of the numbers themselves
 module _ (b : tie.After-struct-told2) where
@@ -52,8 +42,8 @@ module _ (t : tie.After-struct-told3) where
   early : ltZ (e .time) at ≡ true
   early = nle-lt at (e .time) (sym (read (t .before .before .before)) ∙ t .before .before .if1 .left)
 
-  is : (k : ℤ) → e .kind ≡ k → folds k at e ≡ eqZ k k
-  is k q = folds-early k at e early ∙ ap (λ (z : ℤ). eqZ z k) q
+  is : (k : ℤ) → e .kind ≡ k → folds k at e ≡ true
+  is k q = folds-is k at e early q
 
 returns : tie.Need-returns
 unfolding noted
@@ -66,7 +56,7 @@ returns-2 : tie.Need-returns-2
 unfolding noted
 returns-2 c =
     let t = c .before .before in
-    let f = is t voice (bits-eq (kind-fits t) program (c .before .match .keys1)) in
+    let f = is t voice (bits-eq (kind-fits t) program-fits (c .before .match .keys1)) in
     rw (f, folds-alone voice (at t) (e t) f pitchBend refl, back w64 (e t .v1) (c .struct-told4 .given .1 .1 .1 .0 .1), back w64 (e t .channel) (c .struct-told4 .given .1 .1 .0 .1))
 
 returns-3 : tie.Need-returns-3
@@ -74,14 +64,14 @@ unfolding noted
 returns-3 c =
     let m = c .before .before in
     let t = m .before in
-    let f = is t controlChange (bits-eq (kind-fits t) control (m .match .keys2)) in
+    let f = is t controlChange (bits-eq (kind-fits t) control-fits (m .match .keys2)) in
     rw (folds-alone controlChange (at t) (e t) f voice refl, f, folds-alone controlChange (at t) (e t) f pitchBend refl, back w64 (start t .args .last .program) (c .before .struct-told5 .given .0 .1), back w64 (e t .channel) (c .struct-told6 .given .1 .1 .0 .1))
 
 returns-4 : tie.Need-returns-4
 unfolding noted
 returns-4 c =
     let t = c .before .before in
-    let f = is t pitchBend (bits-eq (kind-fits t) bend (c .before .match .keys3)) in
+    let f = is t pitchBend (bits-eq (kind-fits t) bend-fits (c .before .match .keys3)) in
     rw (folds-alone pitchBend (at t) (e t) f voice refl, folds-alone pitchBend (at t) (e t) f controlChange refl, f, back w64 (start t .args .last .program) (c .struct-told7 .given .0 .1), back w64 (start t .args .last .channel) (c .struct-told7 .given .1 .0 .1))
 
 returns-5 : tie.Need-returns-5
@@ -90,9 +80,9 @@ returns-5 c =
     let t = c .before in
     let r = c .match .rest in
     rw (
-      folds-early voice (at t) (e t) (early t) ∙ bits-differ (kind-fits t) program (r .0 .0 .1),
-      folds-early controlChange (at t) (e t) (early t) ∙ bits-differ (kind-fits t) control (r .0 .1),
-      folds-early pitchBend (at t) (e t) (early t) ∙ bits-differ (kind-fits t) bend (r .1),
+      folds-early voice (at t) (e t) (early t) ∙ bits-differ (kind-fits t) program-fits (r .0 .0 .1),
+      folds-early controlChange (at t) (e t) (early t) ∙ bits-differ (kind-fits t) control-fits (r .0 .1),
+      folds-early pitchBend (at t) (e t) (early t) ∙ bits-differ (kind-fits t) bend-fits (r .1),
     )
 
 pub note-spec : {M : Type 1} → statement M

@@ -3,7 +3,7 @@ use mathlib.Core.Path.{_≡_, sym, ap, ap₂, _∙_}
 use mathlib.Core.Bool.{true}
 use Prim.Native.Nat.{_<_}
 use native.Mathlib.Omega.{arith}
-use lib.Dec.{T, lit<}
+use lib.Dec.{T}
 use lib.IntN.{ℤ, natAbs}
 use lib.Signed.{nonNeg, ltZ}
 use mir.Syntax.{w64}
@@ -16,11 +16,9 @@ use Rattle.cutting.specs.Cuts.{folds}
 use Rattle.cutting.specs.Passes.{valued}
 use Rattle.cutting.proofs.Folding.{folds-early, folds-late}
 use Rattle.cutting.proofs.Stored.{numbered, controller-up, controller-cut}
+use Rattle.cutting.proofs.KindBits.{control-fits}
 use Rattle.cutting.proofs.note_value.Statement.{statement}
 use Rattle.cutting.proofs.note_value.Tie as tie
-
-control : SFits w64 controlChange
-control = record { sfits = lit< tt }
 
 -- the test of the time, of the numbers themselves
 module _ (b : tie.After-struct-told2) where
@@ -44,7 +42,7 @@ module _ (m : tie.At-match-keys1) where
   s = first (m .before .before .before)
 
   is : folds controlChange (s .args .c .at) (s .args .e) ≡ true
-  is = early (m .before) ∙ ap (λ (z : ℤ). eqZ z controlChange) (bits-eq (kind-fits (m .before)) control (m .match .keys1))
+  is = early (m .before) ∙ ap (λ (z : ℤ). eqZ z controlChange) (bits-eq (kind-fits (m .before)) control-fits (m .match .keys1))
 
   up : T (nonNeg (s .args .e .v1)) × (natAbs (s .args .e .v1) < 128)
   up = controller-up (s .args .e .v1) (numbered (s .args .c .at) (s .args .e) (s .pre) is)
@@ -70,7 +68,7 @@ returns c =
 
 returns-2 : tie.Need-returns-2
 unfolding valued
-returns-2 c = rw (early (c .before) ∙ bits-differ (kind-fits (c .before)) control (c .match .rest .1))
+returns-2 c = rw (early (c .before) ∙ bits-differ (kind-fits (c .before)) control-fits (c .match .rest .1))
 
 returns-3 : tie.Need-returns-3
 unfolding valued

@@ -1,13 +1,11 @@
 -- `stand` meets its contract: from the cut on nothing is folded, and before it an event is folded as its kind alone (`folds-alone`).
 use borrow.Author.Needs.{needs}
-use mathlib.Core.Path.{_≡_, refl, sym, ap, ap₂, _∙_}
+use mathlib.Core.Path.{_≡_, refl, sym, ap₂, _∙_}
 use mathlib.Core.Bool.{true}
-use lib.Dec.{lit<}
 use lib.IntN.{ℤ}
 use lib.Signed.{ltZ, leZ}
 use mir.Syntax.{w64}
 use mir.Val.{SFits, toZ, ofZ}
-use Rattle.laws.specs.Integers.{eqZ}
 use Rattle.laws.proofs.Bits.{bits-eq, bits-differ}
 use Rattle.laws.proofs.Fitting.{back}
 use Rattle.laws.proofs.Order.{le-not-lt, nle-lt}
@@ -15,18 +13,10 @@ use Rattle.events.specs.declared.Event.{Event}
 use Rattle.events.specs.Kinds.{controlChange, pitchBend, voice}
 use Rattle.cutting.specs.Cuts.{folds}
 use Rattle.cutting.specs.ByTime.{stood}
-use Rattle.cutting.proofs.Folding.{folds-alone, folds-early, folds-late}
+use Rattle.cutting.proofs.Folding.{folds-alone, folds-early, folds-late, folds-is}
+use Rattle.cutting.proofs.KindBits.{control-fits, bend-fits, program-fits}
 use Rattle.cutting.proofs.stand.Statement.{statement}
 use Rattle.cutting.proofs.stand.Tie as tie
-
-control : SFits w64 controlChange
-control = record { sfits = lit< tt }
-
-bends : SFits w64 pitchBend
-bends = record { sfits = lit< tt }
-
-program : SFits w64 voice
-program = record { sfits = lit< tt }
 
 -- the test of the time, of the numbers themselves
 module _ (b : tie.After-struct-told2) where
@@ -68,8 +58,8 @@ module _ (t : tie.After-struct-told6) where
   bent : toZ w64 (ofZ w64 (start .args .s .bend .event .time)) ≡ start .args .s .bend .event .time
   bent = back w64 (start .args .s .bend .event .time) (times .struct-told5 .given .1 .0 .1)
 
-  is : (k : ℤ) → e .kind ≡ k → folds k at e ≡ eqZ k k
-  is k q = folds-early k at e early ∙ ap (λ (z : ℤ). eqZ z k) q
+  is : (k : ℤ) → e .kind ≡ k → folds k at e ≡ true
+  is k q = folds-is k at e early q
 
 later-requires : tie.Need-later-requires
 later-requires c κs = search needs
@@ -95,7 +85,7 @@ unfolding stood
 returns-2 c =
     let m = c .before .before in
     let t = m .before in
-    let f = is t voice (bits-eq (kind-fits t) program (m .match .keys1)) in
+    let f = is t voice (bits-eq (kind-fits t) program-fits (m .match .keys1)) in
     rw (c .before .later .ensures, c .later2 .ensures, f, folds-alone voice (at t) (e t) f pitchBend refl, programmed t, told t)
 
 returns-3 : tie.Need-returns-3
@@ -103,7 +93,7 @@ unfolding stood
 returns-3 c =
     let m = c .before in
     let t = m .before in
-    let f = is t controlChange (bits-eq (kind-fits t) control (m .match .keys2)) in
+    let f = is t controlChange (bits-eq (kind-fits t) control-fits (m .match .keys2)) in
     rw (c .later3 .ensures, folds-alone controlChange (at t) (e t) f voice refl, f, folds-alone controlChange (at t) (e t) f pitchBend refl, told t)
 
 returns-4 : tie.Need-returns-4
@@ -111,7 +101,7 @@ unfolding stood
 returns-4 c =
     let m = c .before in
     let t = m .before in
-    let f = is t pitchBend (bits-eq (kind-fits t) bends (m .match .keys3)) in
+    let f = is t pitchBend (bits-eq (kind-fits t) bend-fits (m .match .keys3)) in
     rw (c .later4 .ensures, folds-alone pitchBend (at t) (e t) f voice refl, folds-alone pitchBend (at t) (e t) f controlChange refl, f, bent t)
 
 returns-5 : tie.Need-returns-5
@@ -120,9 +110,9 @@ returns-5 c =
     let t = c .before in
     let r = c .match .rest in
     rw (
-      folds-early voice (at t) (e t) (early t) ∙ bits-differ (kind-fits t) program (r .0 .0 .1),
-      folds-early controlChange (at t) (e t) (early t) ∙ bits-differ (kind-fits t) control (r .0 .1),
-      folds-early pitchBend (at t) (e t) (early t) ∙ bits-differ (kind-fits t) bends (r .1),
+      folds-early voice (at t) (e t) (early t) ∙ bits-differ (kind-fits t) program-fits (r .0 .0 .1),
+      folds-early controlChange (at t) (e t) (early t) ∙ bits-differ (kind-fits t) control-fits (r .0 .1),
+      folds-early pitchBend (at t) (e t) (early t) ∙ bits-differ (kind-fits t) bend-fits (r .1),
     )
 
 pub stand-spec : {M : Type 1} → statement M
