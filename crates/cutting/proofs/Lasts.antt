@@ -1,11 +1,13 @@
--- The last event of which a test holds, when a list grows at its end.
---     last-append, last-more   one more event: it counts where the test holds of it
+-- The last event of which a test holds, when a list grows at its end, is thinned, or changed event by event.
+--     last-append, last-more   a list of two parts; one more event: it counts where the test holds of it
 --     last-less                the same, seen from a list that is searched from its end
 --     last-found, last-none    it is the one after which there is none; where there is none, the default
+--     last-without, last-unsaid   of what is left of a list; where what went says nothing, of the list
+--     last-mapped, last-same, last-alike   of what became of its events, and by what is said alike of each
 --     lasts-more               what a cut remembers, after one more event (`noted`)
-use mathlib.Core.Path.{_≡_, refl, ap, _∙_}
-use mathlib.Core.Bool.{Bool, true, false, cond, not, _||_}
-use mathlib.Core.List.{List, [], _∷_, _++_}
+use mathlib.Core.Path.{_≡_, refl, sym, ap, _∙_, fun-ext}
+use mathlib.Core.Bool.{Bool, true, false, cond, not, _&&_, _||_}
+use mathlib.Core.List.{List, [], _∷_, _++_, map}
 use Prim.Native.Nat.{ℕ, _+_, _-_, _≤_, _<_}
 use native.Mathlib.Numerals.{add-one}
 use native.Mathlib.Omega.{arith}
@@ -13,7 +15,8 @@ use borrow.Author.Tests.{not-true}
 use lib.IntN.{ℤ, pos}
 use lib.ListN.{length, getD, take}
 use lib.Seq.{take-suc}
-use Rattle.laws.specs.Lists.{all}
+use Rattle.laws.specs.Lists.{all, unless, without}
+use Rattle.laws.proofs.Bools.{and-on, and-off}
 use Rattle.laws.proofs.Ranges.{left, right}
 use Rattle.events.specs.declared.Event.{Event}
 use Rattle.events.specs.Events.{zeroEvent}
@@ -23,13 +26,13 @@ use Rattle.cutting.specs.Cuts.{unset, folds}
 use Rattle.cutting.specs.Passes.{noted, lastsOf}
 
 module _ {A : Type 0} (p : Event → Bool) (f : Event → A) where
-  pub last-append : (d : A) (es : List Event) (e : Event) → lastOf p f d (es ++ (e ∷ [])) ≡ cond (p e) (f e) (lastOf p f d es)
-  last-append d [] e = refl
-  last-append d (x ∷ es) e = last-append (cond (p x) (f x) d) es e
+  pub last-append : (d : A) (a b : List Event) → lastOf p f d (a ++ b) ≡ lastOf p f (lastOf p f d a) b
+  last-append d [] b = refl
+  last-append d (x ∷ a) b = last-append (cond (p x) (f x) d) a b
 
   pub last-more : (d : A) (l : List Event) (i : ℕ) (z : Event) → i < length l
       → lastOf p f d (take (i + 1) l) ≡ cond (p (getD l i z)) (f (getD l i z)) (lastOf p f d (take i l))
-  last-more d l i z h = rw (add-one, take-suc l i z h) (last-append d (take i l) (getD l i z))
+  last-more d l i z h = rw (add-one, take-suc l i z h) (last-append d (take i l) (getD l i z ∷ []))
 
   pub last-less : (d : A) (l : List Event) (i : ℕ) (z : Event) → 0 < i → i ≤ length l
       → lastOf p f d (take i l) ≡ cond (p (getD l (i - 1) z)) (f (getD l (i - 1) z)) (lastOf p f d (take (i - 1) l))
@@ -47,6 +50,44 @@ module _ {A : Type 0} (p : Event → Bool) (f : Event → A) where
   pub last-found : (d : A) (a b : List Event) (e : Event) → p e ≡ true → all (λ x. not (p x)) b ≡ true → lastOf p f d (a ++ (e ∷ b)) ≡ f e
   last-found d [] b e y n = ap (λ (t : Bool). lastOf p f (cond t (f e) d) b) y ∙ last-none (f e) b n
   last-found d (x ∷ a) b e y n = last-found (cond (p x) (f x) d) a b e y n
+
+  -- ---- thinned, changed, alike
+  pub last-without : (out : Event → Bool) (d : A) (es : List Event) → lastOf p f d (without out es) ≡ lastOf (λ e. p e && not (out e)) f d es
+  last-without out d [] = refl
+  last-without out d (x ∷ es) = go (out x) (last-without out d es) (last-without out (cond (p x) (f x) d) es)
+    where
+      go : (t : Bool) → lastOf p f d (without out es) ≡ lastOf (λ e. p e && not (out e)) f d es
+          → lastOf p f (cond (p x) (f x) d) (without out es) ≡ lastOf (λ e. p e && not (out e)) f (cond (p x) (f x) d) es
+          → lastOf p f d (unless t x (without out es)) ≡ lastOf (λ e. p e && not (out e)) f (cond (p x && not t) (f x) d) es
+      go true gone stays = gone ∙ rw (and-off (p x))
+      go false gone stays = stays ∙ rw (and-on (p x))
+
+  pub last-same : (q : Event → Bool) → ((e : Event) → p e ≡ q e) → (d : A) (es : List Event) → lastOf p f d es ≡ lastOf q f d es
+  last-same q h d es = ap (λ (r : Event → Bool). lastOf r f d es) (fun-ext h)
+
+  -- where what is left out says nothing
+  pub last-unsaid : (out : Event → Bool) → ((e : Event) → p e ≡ true → out e ≡ false) → (d : A) (es : List Event) → lastOf p f d (without out es) ≡ lastOf p f d es
+  last-unsaid out h d es = last-without out d es ∙ sym (last-same (λ e. p e && not (out e)) (λ e. go e (p e) refl) d es)
+    where
+      go : (e : Event) (b : Bool) → p e ≡ b → b ≡ (b && not (out e))
+      go e true q = rw (h e q)
+      go e false q = refl
+
+  pub last-mapped : (g : Event → Event) (d : A) (es : List Event) → lastOf p f d (map g es) ≡ lastOf (λ e. p (g e)) (λ e. f (g e)) d es
+  last-mapped g d [] = refl
+  last-mapped g d (x ∷ es) = last-mapped g (cond (p (g x)) (f (g x)) d) es
+
+  pub last-alike : (q p′ : Event → Bool) (f′ : Event → A) → ((e : Event) → q e ≡ true → p e ≡ p′ e) → ((e : Event) → q e ≡ true → p e ≡ true → f e ≡ f′ e)
+      → (d : A) (es : List Event) → all q es ≡ true → lastOf p f d es ≡ lastOf p′ f′ d es
+  unfolding all
+  last-alike q p′ f′ h k d [] y = refl
+  last-alike q p′ f′ h k d (x ∷ es) y =
+      let here = left (q x) (all q es) y in
+      ap (λ (z : A). lastOf p f z es) (go (p x) refl here) ∙ last-alike q p′ f′ h k (cond (p′ x) (f′ x) d) es (right (q x) (all q es) y)
+    where
+      go : (t : Bool) → p x ≡ t → q x ≡ true → cond t (f x) d ≡ cond (p′ x) (f′ x) d
+      go true e here = rw (sym (h x here) ∙ e) (k x here e)
+      go false e here = rw (sym (h x here) ∙ e)
 
 module _ (at : ℤ) (l : List Event) (i : ℕ) (h : i < length l) where
   abbrev e : Event

@@ -1,5 +1,5 @@
 -- Words for lists and for the counted part of a table, over any element.
-use mathlib.Core.Bool.{Bool, true, false, cond, _&&_, _||_}
+use mathlib.Core.Bool.{Bool, true, false, cond, not, _&&_, _||_}
 use mathlib.Core.List.{List, [], _∷_, _++_}
 use Prim.Native.Nat.{ℕ, suc, _-_, max}
 use lib.Dec.{leb}
@@ -33,6 +33,10 @@ module _ {A : Type 0} where
   abbrev pub without : (A → Bool) → List A → List A
   without out [] = []
   without out (x ∷ xs) = unless (out x) x (without out xs)
+
+  -- those of which p holds, in order
+  abbrev pub only : (A → Bool) → List A → List A
+  only p xs = without (λ x. not (p x)) xs
 
   -- a counted list whose first n become `now`: places that fall vacant are z, those past both stay
   abbrev pub putFirst : A → ℕ → List A → List A → List A
