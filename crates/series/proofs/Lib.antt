@@ -4,4 +4,5 @@ pub mod ByValue
 pub mod Demand
 pub mod Large
 pub mod Linked
+pub mod Cut
 pub mod Loop

@@ -1,0 +1,9 @@
+pub mod Folded
+pub mod Played
+pub mod Beyond
+pub mod Told
+pub mod Passage
+pub mod Twice
+pub mod Reading
+pub mod Calls
+pub mod Edges
