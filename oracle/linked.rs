@@ -4,6 +4,7 @@
 //     linked SEED COUNT FAMILIES [SEEDS]      so many scripts, their seeds rising; ends at the first difference
 //     linked SEED edges                       one script of cycle calls at their edge
 //     linked SEED merged COUNT                one script of full cuts of lists that are not sorted
+//     linked SEED passage COUNT               so many lists and their full cuts, played: of the port alone
 //     linked bench                            times of some calls on both sides
 
 #![allow(dead_code)]
@@ -22,6 +23,7 @@ mod library;
 mod make;
 mod merged;
 mod other;
+mod passage;
 mod poke;
 mod private;
 mod quarter;
@@ -274,10 +276,11 @@ fn main() {
         ["bench"] => timing::print(),
         [seed, "edges"] => compare_all(number(seed), 1, edges::script),
         [seed, "merged", count] => compare_all(number(seed), 1, |seed| merged::script(seed, number(count) as usize)),
+        [seed, "passage", count] => std::process::exit(i32::from(!passage::run(number(seed), number(count) as usize))),
         [seed, count, families] => compare_all(number(seed), 1, random(count, families)),
         [seed, count, families, seeds] => compare_all(number(seed), number(seeds), random(count, families)),
         _ => {
-            eprintln!("linked SEED COUNT FAMILIES [SEEDS] | SEED edges | SEED merged COUNT | bench");
+            eprintln!("linked SEED COUNT FAMILIES [SEEDS] | SEED edges | SEED merged COUNT | SEED passage COUNT | bench");
             std::process::exit(2);
         }
     }
