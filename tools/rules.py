@@ -1,13 +1,14 @@
 #!/usr/bin/env python3
-"""The names of docs/RULES.md, held against the sources.
+"""The names of docs/RULES.md and docs/CUT.md, and what the latter quotes, held against the sources.
 
-    python3 tools/rules.py --check     in the repository's folder: fails where a file is not there, or a name is not declared in it
+    python3 tools/rules.py --check     in the repository's folder: fails where a file is not there, a name is not declared in it, or a quoted line does not stand in the sources
 
-A reference is `crate/specs/File:name`, `crate/proofs/File:name`, `crate/src:name` or `oracle/file.rs:name`, each in backquotes, in a table.
+A reference is `crate/specs/File:name`, `crate/proofs/File:name`, `crate/src:name` or `oracle/file.rs:name`, each in backquotes, in a table. A quotation is a block of `antt`; each of its lines is a line of crate passage.
 """
-import os, re, sys
+import glob, os, re, sys
 
-PAGE = 'docs/RULES.md'
+PAGES = ['docs/RULES.md', 'docs/CUT.md']
+QUOTED = 'crates/passage/*/*.antt'
 REFERENCE = re.compile(r'`([a-z_]+)/(specs/\w+|proofs/\w+|src|\w+\.rs):([^`\s]+)`')
 
 
@@ -30,18 +31,24 @@ def declares(path, name):
     return re.search(shape, open(path).read(), re.M) is not None
 
 
+def wrong(page, text, written):
+    """What the page says that the sources do not."""
+    names = REFERENCE.findall(''.join(re.findall(r'^\|.*$', text, re.M)))
+    missing = [f'{page}: not declared: {home}/{place}:{name}' for home, place, name in names if not any(declares(path, name) for path in sources(home, place))]
+    quoted = [line.strip() for block in re.findall(r'^```antt\n(.*?)^```', text, re.M | re.S) for line in block.splitlines()]
+    missing += [f'{page}: not in {QUOTED}: {line}' for line in quoted if line not in written]
+    return missing if names else [f'{page}: no reference']
+
+
 def main():
     if sys.argv[1:] != ['--check']:
         print(__doc__)
         return 2
-    rows = [line for line in open(PAGE) if line.startswith('|')]
-    names = REFERENCE.findall(''.join(rows))
-    missing = [f'{home}/{place}:{name}' for home, place, name in names if not any(declares(path, name) for path in sources(home, place))]
-    for name in missing:
-        print(f'{PAGE}: not declared: {name}')
-    if not names:
-        print(f'{PAGE}: no reference')
-    return 1 if missing or not names else 0
+    written = {line.strip() for path in glob.glob(QUOTED) for line in open(path)}
+    faults = [fault for page in PAGES for fault in wrong(page, open(page).read(), written)]
+    for fault in faults:
+        print(fault)
+    return 1 if faults else 0
 
 
 if __name__ == '__main__':
