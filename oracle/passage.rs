@@ -19,6 +19,7 @@ const PROGRAM: i64 = 5;
 const META: i64 = 6;
 const SYSEX: i64 = 7;
 const SOUNDS: [i64; 4] = [NOTE, CONTROLLER, BEND, PROGRAM];
+const SILENT: [i64; 2] = [META, SYSEX];
 
 /// The most events of a list, which is as many as it has room for.
 const MOST: i64 = 40;
@@ -185,8 +186,9 @@ impl Case {
         figures.lists += 1;
         figures.unsorted += usize::from(!song.is_sorted_by_key(|event| event[TIME]));
         let passage = match full_cut(desk, song, *cut) {
+            Ok(_) if self.too_far() => return Err("a time past its range is not refused".to_string()),
             Ok(passage) => passage,
-            Err(_) if self.too_far() => {
+            Err(4) if self.too_far() => {
                 figures.refused += 1;
                 return Ok(());
             }
@@ -208,9 +210,10 @@ impl Case {
         same("notes, Meta and SysEx of one cut and of a cut of the passage", &others(&once), &others(&twice))
     }
 
-    /// Whether an event would get a time that no event may have.
+    /// Whether an event that travels would get a time that no event may have.
     fn too_far(&self) -> bool {
-        self.song.iter().any(|event| event[TIME] - self.cut > 4 * FAR)
+        let travels = |event: &Record| SOUNDS.contains(&event[KIND]) || SILENT.contains(&event[KIND]);
+        self.song.iter().any(|event| travels(event) && event[TIME] - self.cut > 4 * FAR)
     }
 }
 
@@ -299,7 +302,7 @@ fn plays_on(song: &[Record], cut: i64, passage: &[Record]) -> Result<bool, Strin
         return Err(format!("before the cut is set: {stands:?}\nthe passage begins with: {set:?}"));
     }
 
-    let mut kept = of(&moved(song, cut), &[META, SYSEX]);
+    let mut kept = of(&moved(song, cut), &SILENT);
     for event in &mut kept {
         event[TIME] = event[TIME].max(0);
     }
