@@ -14,10 +14,10 @@ WIDE, HIGH, ACROSS, UP = 92, 26, 14, 62  # a box, and the room between boxes and
 KIT = {'io', 'libc'}  # the toolchain's own libraries are not drawn
 COLOURS = [
     ('#e8eef7', 'laws, numbers, lists', {'laws', 'numbers', 'budget', 'events', 'eventlist', 'counted', 'shapes', 'sines', 'values'}),
-    ('#e9f5ea', 'what is done to the list', {'sorting', 'notes', 'cutting'}),
+    ('#e9f5ea', 'what is done to the list', {'sorting', 'notes', 'cutting', 'passage'}),
     ('#fdf3df', 'parameters, reservations, curves', {'reserved', 'params', 'layers', 'offers', 'writing', 'cycles', 'tables'}),
     ('#f9e4e4', "the track and a product's calls",
-     {'state', 'playing', 'drawing', 'noting', 'waving', 'reserving', 'cycling', 'lending', 'loans', 'track', 'ctrack', 'marked'}),
+     {'state', 'playing', 'drawing', 'noting', 'waving', 'reserving', 'cycling', 'lending', 'loans', 'track', 'ctrack', 'marked', 'series'}),
     ('#eeeeee', 'programs: tape, comparison, benchmark', set()),
 ]
 # crate, function, what it does for `write_cc_on_time`
