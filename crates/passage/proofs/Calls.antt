@@ -1,24 +1,31 @@
 -- The theorem of the trade of the call `full_cut`, wherever it answers 0, of the events below the count before and after.
+--     accepted                    it answers 0 wherever it is not refused, so that what follows is said of something
 --     call-plays-as-in-the-song   what a player of one channel has; call-every-list, of all channels
 --     call-travelled, call-played, call-played-around   what is in the passage, and what it plays
 --     call-state-twice, call-state-twice-anywhere, call-notes-twice   one call after another, and one call
 use mathlib.Core.Bool.{true}
-use mathlib.Core.Path.{_≡_, sym, ap, ap₂, _∙_}
+use mathlib.Core.Path.{_≡_, refl, sym, ap, ap₂, _∙_}
 use mathlib.Core.List.{List, _∷_, _++_, map}
 use Prim.Native.Nat.{ℕ}
 use lib.IntN.{ℤ, pos, _+ℤ_}
+use lib.ListN.{length}
 use lib.Signed.{leZ}
 use Rattle.laws.specs.Lists.{only}
 use Rattle.events.specs.declared.Event.{Event}
 use Rattle.eventlist.specs.declared.Taken.{Taken}
 use Rattle.eventlist.specs.Rows.{eventsOf}
 use Rattle.eventlist.proofs.Sound.{left-events}
-use Rattle.cutting.specs.Cuts.{folded, whole, cutOf, cutTaken}
+use Rattle.cutting.specs.Cuts.{folded, whole, cutOf, cutRefusal, cutTaken, cutLeft}
 use Rattle.passage.specs.Player.{heard, on, anywhere, state}
 use Rattle.passage.specs.Passage.{sounds, unfolded, travels, arrives, lessCut, fromCut, FromOne, CutOut}
 use Rattle.passage.proofs.Passage.{plays-as-in-the-song, every-list}
 use Rattle.passage.proofs.Played.{travelled, played, played-around}
 use Rattle.passage.proofs.Twice.{state-twice, state-twice-anywhere, notes-twice}
+
+-- where the call is not refused, it cuts out
+pub accepted : (store : ℕ) (l : List ℤ) (count : ℕ) (at : ℤ) → cutRefusal store l count (whole at) ≡ 0
+    → CutOut store l count at (length (cutOf (whole at) (eventsOf l count))) (cutLeft store l count (whole at))
+accepted store l count at y = record { answer = rw y; list = refl }
 
 module _ {store : ℕ} {l : List ℤ} {count : ℕ} {at : ℤ} {n : ℕ} {l′ : List ℤ} (k : CutOut store l count at n l′) where
   -- the events below the count afterwards

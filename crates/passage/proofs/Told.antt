@@ -138,6 +138,19 @@ module _ (listens : ℤ → Bool) (at : ℤ) where
   swap₃ true false u = and-off u
   swap₃ false l u = refl
 
+  -- what is folded in its three parts, of which the controllers say nothing
+  past-controls : (p : Event → Bool) (f : Event → Option ℤ) (os : List Event) → ((n : ℕ) (v : ℤ) → p (ccEvent (pos 0) (channelAt at os) (pos n) v) ≡ false)
+      → lastOf p f none (folded (whole at) os) ≡ lastOf p f (lastOf p f none (programOn (programAt at os) (channelAt at os))) (bendAt at os)
+  unfolding folded
+  past-controls p f os h =
+      let channel = channelAt at os in
+      let C = controlsFrom (controlAt at os) channel controllers 0 in
+      let P = programOn (programAt at os) channel in
+      last-append p f none C (P ++ bendAt at os)
+      ∙ last-append p f (lastOf p f none C) P (bendAt at os)
+      ∙ ap (λ (d : Option ℤ). lastOf p f (lastOf p f d P) (bendAt at os))
+      (last-none p f none C (all-controls (λ e. not (p e)) (controlAt at os) channel (λ n k. ap not (h n (controlAt at os n))) controllers 0))
+
   module _ (es : List Event) (b : Bool) where
     abbrev s : List Event
     s = heard es
@@ -165,18 +178,13 @@ module _ (listens : ℤ → Bool) (at : ℤ) where
           asked false l x q = absurd (true≢false (sym q))
 
       pub program-inside : programOf (folded (whole at) (heard es)) listens ≡ lastOf (λ e. says voice listens e && ltZ (e .time) at) (λ e. held (e .v1)) none (heard es)
-      unfolding folded folds
+      unfolding folds
       program-inside =
           let channel = channelAt at s in
-          let C = controlsFrom (controlAt at s) channel controllers 0 in
-          let P = programOn (programAt at s) channel in
-          let B = bendAt at s in
           let p = says voice listens in
           let f : Event → Option ℤ = λ e. held (e .v1) in
-          last-append p f none C (P ++ B)
-          ∙ last-append p f (lastOf p f none C) P B
-          ∙ last-none p f (lastOf p f (lastOf p f none C) P) B (bend-by-kind (λ e. not (says voice listens e)) at s (λ e k. rw k))
-          ∙ ap (λ (d : Option ℤ). lastOf p f d P) (last-none p f none C (all-controls (λ e. not (says voice listens e)) (controlAt at s) channel (λ n k. refl) controllers 0))
+          past-controls p f s (λ n v. refl)
+          ∙ last-none p f (lastOf p f none (programOn (programAt at s) channel)) (bendAt at s) (bend-by-kind (λ e. not (says voice listens e)) at s (λ e k. rw k))
           ∙ one-read p f (voiceEvent (pos 0) channel (programAt at s)) (programAt at s) refl refl
           ∙ told-alike listens at es b h (folds voice at) (λ e k. rw k) (λ e. e .v1)
           ∙ last-same (λ e. folds voice at e && listens (e .channel)) f (λ e. says voice listens e && ltZ (e .time) at)
@@ -184,18 +192,14 @@ module _ (listens : ℤ → Bool) (at : ℤ) where
 
     pub bend-inside : Alike listens (folds pitchBend at) b es
         → bendOf (folded (whole at) (heard es)) listens ≡ lastOf (λ e. says pitchBend listens e && ltZ (e .time) at) (λ e. some (e .v1)) none (heard es)
-    unfolding folded folds
+    unfolding folds
     bend-inside h =
         let channel = channelAt at s in
-        let C = controlsFrom (controlAt at s) channel controllers 0 in
-        let P = programOn (programAt at s) channel in
-        let B = bendAt at s in
         let p = says pitchBend listens in
         let f : Event → Option ℤ = λ e. some (e .v1) in
-        last-append p f none C (P ++ B)
-        ∙ last-append p f (lastOf p f none C) P B
-        ∙ ap (λ (d : Option ℤ). lastOf p f (lastOf p f d P) B) (last-none p f none C (all-controls (λ e. not (says pitchBend listens e)) (controlAt at s) channel (λ n k. refl) controllers 0))
-        ∙ ap (λ (d : Option ℤ). lastOf p f d B) (last-none p f none P (all-program (λ e. not (says pitchBend listens e)) (programAt at s) channel (λ k. refl)))
+        past-controls p f s (λ n v. refl)
+        ∙ ap (λ (d : Option ℤ). lastOf p f d (bendAt at s))
+        (last-none p f none (programOn (programAt at s) channel) (all-program (λ e. not (says pitchBend listens e)) (programAt at s) channel (λ k. refl)))
         ∙ last-map (lastOf p f none) (folds pitchBend at) (λ e. withTime (pos 0) e ∷ []) [] s
         ∙ read-alike
       where
