@@ -1,0 +1,10 @@
+pub mod Leaves
+pub mod Sending
+pub mod Readiness
+pub mod Well
+pub mod Passes
+pub mod Refusing
+pub mod ReadBack
+pub mod Apart
+pub mod Calls
+pub mod Cases
