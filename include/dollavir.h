@@ -9,6 +9,9 @@
  *   5 a layer above 15
  *   6 no place in a reservation table
  *   7 the list that is left holds more events than the buffer
+ *   10 the list is not sorted, its first time is below 0, or a gap (the first from time 0) is above 268,435,455
+ *   11 a kind that is not written, or a field outside its MIDI width, which is 0 to 16,383 for a bend
+ *   12 the output is too short
  * A pointer must be valid, aligned and not null, also where its length is 0, and what two parameters point at
  * must not overlap. A slice is a pointer and the number of its elements. The event list has eight numbers a
  * record: kind, time, channel, v1, v2, v3, offset, length. What a function does not read it does not test:
@@ -544,6 +547,16 @@ uint32_t dollavir_play_from(int64_t *events, size_t events_length, size_t *count
    places that fall vacant are zeroed. Refuses 1, 4; then the list is left as it is. */
 uint32_t dollavir_full_cut(int64_t *events, size_t events_length, size_t *count, int64_t cut,
     const uint8_t *store, size_t store_length);
+
+/* ---- a file's track chunk ---- */
+
+/* Writes the events as a track chunk of Standard MIDI Files 1.0 at the start of `out`, with full status on every
+   event and the end of track last. Leaves the bytes of the chunk in `bytes`, 0 where it refuses; those behind it
+   are left. Refuses 1, 4; 10 a list that is not in order, whose first time is below 0 or that has a gap above
+   268,435,455; 11 a kind that is not written, or a field outside its width; 12 an output that is too short. Then
+   the output is left as it is. */
+uint32_t dollavir_write_chunk(const int64_t *events, size_t events_length, size_t count, const uint8_t *store,
+    size_t store_length, uint8_t *out, size_t out_length, size_t *bytes);
 
 /* ---- the track's parameters and layers ---- */
 

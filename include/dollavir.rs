@@ -8,6 +8,9 @@
 //   5 a layer above 15
 //   6 no place in a reservation table
 //   7 the list that is left holds more events than the buffer
+//   10 the list is not sorted, its first time is below 0, or a gap (the first from time 0) is above 268,435,455
+//   11 a kind that is not written, or a field outside its MIDI width, which is 0 to 16,383 for a bend
+//   12 the output is too short
 // A pointer must be valid, aligned and not null, also where its length is 0, and what two parameters point at
 // must not overlap. A slice is a pointer and the number of its elements. The event list has eight numbers a
 // record: kind, time, channel, v1, v2, v3, offset, length. What a function does not read it does not test:
@@ -548,6 +551,15 @@ extern "C" {
     // negative value of the latest unsets, but a bend counts whatever its value, on its own channel. Answers the
     // new count; the places that fall vacant are zeroed. Refuses 1, 4; then the list is left as it is.
     pub fn dollavir_full_cut(events: *mut i64, events_length: usize, count: *mut usize, cut: i64, store: *const u8, store_length: usize) -> u32;
+
+    // ---- a file's track chunk
+
+    // Writes the events as a track chunk of Standard MIDI Files 1.0 at the start of `out`, with full status on
+    // every event and the end of track last. Leaves the bytes of the chunk in `bytes`, 0 where it refuses; those
+    // behind it are left. Refuses 1, 4; 10 a list that is not in order, whose first time is below 0 or that has a
+    // gap above 268,435,455; 11 a kind that is not written, or a field outside its width; 12 an output that is
+    // too short. Then the output is left as it is.
+    pub fn dollavir_write_chunk(events: *const i64, events_length: usize, count: usize, store: *const u8, store_length: usize, out: *mut u8, out_length: usize, bytes: *mut usize) -> u32;
 
     // ---- the track's parameters and layers
 

@@ -36,6 +36,8 @@ A controller's value
     track::current_cc_value
 The event list
     eventlist::remove_pitch_bend_in_range sorting::events_sort notes::split_note_off notes::normalize cutting::play_from cutting::full_cut
+A file's track chunk
+    chunks::write_chunk
 The track's parameters and layers
     playing::calc_v_on_time playing::calc_t_on_time playing::calc_qlen_on_time playing::calc_o_on_time playing::calc_l_on_time
     playing::calc_v_on_note playing::calc_t_on_note playing::calc_qlen_on_note playing::calc_o_on_note playing::calc_l_on_note
@@ -83,6 +85,7 @@ ANSWERS = {
     'Cycled': ('cycling', 'CycleWritten', 'the write of the cycles: besides, the records cs of the lent cycle table'),
     'CcValue': ('cutting', 'CcTold', 'a controller\'s value'),
     'Taken': ('eventlist', 'ListLeft', 'a call on the list alone: the number r, the count n, the numbers m'),
+    'Chunk': ('chunks', 'ChunkLeft', 'a call that writes into an output: the number r, the bytes n, every byte m of the output'),
     'ParamAnswer': ('params', 'ParamLeft', 'a parameter that is lent by itself: the number r, the parameter p'),
     'ParamValue': ('params', 'ParamTaken', 'the same with the value v'),
     'Told': ('params', 'ParamTold', 'a value alone'),
@@ -91,13 +94,18 @@ ANSWERS = {
     'Size': ('events', 'SizeTold', 'the bytes n of an event'),
     'CycleTold': ('ctrack', 'TimeTold', 'a cycle over time: k is 1 where it has the value v, else 0'),
 }
-LISTED = ('Outcome', 'Noted', 'Cycled', 'Taken')  # they leave a list besides
+LISTED = {**dict.fromkeys(('Outcome', 'Noted', 'Cycled', 'Taken'), 'ℤ'), 'Chunk': 'ℕ'}  # they leave a list besides, or an output: of what
+OUTPUT = ('split_note_off', 'write_chunk')  # they leave it in `out`
 LETTER = {'track': 't', 'value': 'v', 'budget': 'b', 'count': 'n', 'option': 'o', 'cycles': 'cs', 'param': 'p', 'layers': 'l', 'bytes': 'n', 'found': 'k'}
 HOME = {**{k: v[0] for k, v in ANSWERS.items()}, 'Answer': 'lending', 'Track': 'state', 'Budget': 'budget', 'Cycle': 'cycles', 'WriteOption': 'values', 'OnNoteSine': 'tables',
         'NoteParam': 'params', 'Layers': 'layers', 'Event': 'events', 'Made': 'events', 'OnCycleTime': 'reserved', 'BudgetAnswer': 'budget', 'SineAnswer': 'tables',
         'CycleTimeAnswer': 'reserved'}
 LENT = ('track', 'param', 'layers', 'event', 'cycle', 'budget', 'count')  # by value to the call, by reference here
-ALONE = ('eventlist', 'sorting', 'notes', 'cutting')  # calls that are lent slices and numbers alone: the prover covers them, and no walk is written
+ALONE = ('eventlist', 'sorting', 'notes', 'cutting', 'chunks')  # calls that are lent slices and numbers alone: the prover covers them, and no walk is written
+
+
+def left_of(answer):
+    return 'output' if LISTED.get(answer) == 'ℕ' else 'events'
 
 
 def snake(name):
@@ -203,7 +211,7 @@ class Export:
             return f'(r ≡ {text(self.is_)}) × (now (events .exit) ≡ {text(self.left)})'
         now = ['r'] + [f'(now ({self.out[f].replace("out_count", "«out_count»")} .exit))' for f in self.fields if f != 'code']
         if self.left:
-            now.append(f'(now ({"out" if self.g.name == "split_note_off" else "events"} .exit))')
+            now.append(f'(now ({"out" if self.g.name in OUTPUT else "events"} .exit))')
         parts = [f'({text(x)})' for x in (self.is_, self.left) if x] + [' '.join(now)]
         one = f'{ANSWERS[self.answer][1]} {" ".join(parts)}'
         return one if len(one) < 150 else ANSWERS[self.answer][1] + ' ' + '\n        '.join(parts)
@@ -213,6 +221,8 @@ class Export:
         for n in ('value', 'option', 'bytes', 'limited'):
             if dict(self.params).get(n, '').startswith('&mut'):
                 c = re.sub(r' (Refuses [\d, ]+\.)', rf' Leaves it in `{n}`, {"with nothing set" if n == "option" else "0"} where it refuses. \1', c)
+        if self.g.name == 'write_chunk':
+            c = c.replace('Answers the bytes of the chunk;', 'Leaves the bytes of the chunk in `bytes`, 0 where it refuses;')
         if self.g.name == 'split_note_off':
             c = c.replace('and answers how many they are', 'and leaves their number in `out_count`').replace('then all of `out` is left as it is', 'then all of `out` is left as it is, and `out_count` is `count`')
         return wrapped(c)
@@ -247,19 +257,21 @@ class Export:
         signed = [n for n, t in self.params if t in ('i32', 'i64')]
         if self.answer == 'u32' or not (signed or alone):
             return
-        said = f'{"c .before" if alone else "c"} .{d} .ensures'
+        bytes_back = any(t == '&mut [u8]' for _, t in self.params)  # what comes back in an output of bytes is told in a step of its own
+        said = f'c{" .before" * (alone + bytes_back)} .{d} .ensures'
         start = 'c' + ' .before' * (5 if alone else 1 + any(t == '&[u8]' for _, t in self.params))
         if signed:
             said = f'rw ({", ".join(f"toZ-ofZ (s .fits .{n})" for n in signed)}) at ({said})'
         if self.answer in ('i32', 'i64'):
             said = f'toZ-ofZ {{w = w{self.answer[1:]}}} (sfits-of (c .{d} .ok)) ∙ ({said})'
         if alone:
-            said = f'let e = {said} in record {{ code = ap (λ (t : Taken). t .code) (e .0); count = ap (λ (t : Taken). t .count) (e .0); events = e .1 }}'
+            parts = '; '.join(f'{f} = ap (λ (t : {self.answer}). t .{f}) (e .0)' for f in self.fields)
+            said = f'let e = {said} in record {{ {parts}; {left_of(self.answer)} = e .1 }}'
         if signed:
             said = f'let s = {start} in {said}'
         m, spec = f'Rattle.ctrack.proofs.{self.name}', self.name.replace('_', '-') + '-spec'
         out = [f'-- `{self.name}` is `{self.ref}`. Written by tools/ctrack.py.', 'use borrow.Author.Needs.{needs}']
-        out += ['use mathlib.Core.Path.{ap}', 'use Rattle.eventlist.specs.declared.Taken.{Taken}'] * alone + ['use mir.Facts.{toZ-ofZ}'] * bool(signed)
+        out += ['use mathlib.Core.Path.{ap}', f'use Rattle.{HOME.get(self.answer)}.specs.declared.{self.answer}.{{{self.answer}}}'] * alone + ['use mir.Facts.{toZ-ofZ}'] * bool(signed)
         if self.answer in ('i32', 'i64'):
             out[1:] = ['use mathlib.Core.Path.{_∙_}', f'use mir.Syntax.{{w{self.answer[1:]}}}', 'use mir.Facts.{toZ-ofZ}', 'use borrow.Author.Needs.{needs, sfits-of}']
         out += [f'use {m}.Statement.{{statement}}', f'use {m}.Tie as tie', '', f'{d}-requires : tie.Need-{d}-requires', f'{d}-requires c κs = search needs', '']
@@ -412,8 +424,9 @@ def source():
     for a in answers:
         (_, name, about), listed = ANSWERS[a], a in LISTED
         parts = [(f, t) for f, t in fields(a) if f != 'code']
-        args = f'(a : {a})' + ' (l : List ℤ)' * listed + ' (r : ℕ)' + ''.join(f' ({LETTER[f]} : {denot(t)})' for f, t in parts) + ' (m : List ℤ)' * listed
-        spec += ['', f'-- {about}', f'pub record {name} {args} : Type 0 where', '  pub code : r ≡ a .code'] + [f'  pub {f} : {LETTER[f]} ≡ a .{f}' for f, _ in parts] + ['  pub events : m ≡ l'] * listed
+        of = LISTED.get(a)
+        args = f'(a : {a})' + f' (l : List {of})' * listed + ' (r : ℕ)' + ''.join(f' ({LETTER[f]} : {denot(t)})' for f, t in parts) + f' (m : List {of})' * listed
+        spec += ['', f'-- {about}', f'pub record {name} {args} : Type 0 where', '  pub code : r ≡ a .code'] + [f'  pub {f} : {LETTER[f]} ≡ a .{f}' for f, _ in parts] + [f'  pub {left_of(a)} : m ≡ l'] * listed
     open('crates/ctrack/specs/Lent.antt', 'w').write('\n'.join(spec) + '\n')
 
 

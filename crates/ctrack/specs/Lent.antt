@@ -16,6 +16,7 @@ use Rattle.noting.specs.declared.Noted.{Noted}
 use Rattle.cycling.specs.declared.Cycled.{Cycled}
 use Rattle.cutting.specs.declared.CcValue.{CcValue}
 use Rattle.eventlist.specs.declared.Taken.{Taken}
+use Rattle.chunks.specs.declared.Chunk.{Chunk}
 use Rattle.playing.specs.declared.TrackValue.{TrackValue}
 use Rattle.playing.specs.declared.TrackVelocity.{TrackVelocity}
 use Rattle.events.specs.declared.Size.{Size}
@@ -77,6 +78,12 @@ pub record ListLeft (a : Taken) (l : List ℤ) (r : ℕ) (n : ℕ) (m : List ℤ
   pub code : r ≡ a .code
   pub count : n ≡ a .count
   pub events : m ≡ l
+
+-- a call that writes into an output: the number r, the bytes n, every byte m of the output
+pub record ChunkLeft (a : Chunk) (l : List ℕ) (r : ℕ) (n : ℕ) (m : List ℕ) : Type 0 where
+  pub code : r ≡ a .code
+  pub bytes : n ≡ a .bytes
+  pub output : m ≡ l
 
 -- the same with the value v
 pub record ValueLeft (a : TrackValue) (r : ℕ) (v : ℤ) (t : Track) : Type 0 where

@@ -24,6 +24,7 @@ ghost use Rattle.eventlist.specs.Bends.{bendsTaken, bendsLeft};
 ghost use Rattle.sorting.specs.Sorting.{sortRefusal, sortLeft};
 ghost use Rattle.notes.specs.Notes.{splitTaken, splitLeft};
 ghost use Rattle.cutting.specs.Cuts.{cutTaken, cutLeft, plain, whole};
+ghost use Rattle.chunks.specs.Writing.{chunkWritten, chunkLeft};
 ghost use Rattle.playing.specs.Which.{velocity, timing, gate, octave, span, paramOf};
 ghost use Rattle.playing.specs.Calls.{valueOnTime, valueOnNote, onLayers, summedUp, onParam};
 ghost use Rattle.layers.specs.Calls.{setVSub, setVSubRandom, setVSubOnTime, setVSubOnCycle, setVSubOnNote, applyVSub};
@@ -33,7 +34,7 @@ ghost use Rattle.layers.specs.Layers.{oneLayer};
 ghost use Rattle.reserved.specs.Cycle.{calcOf, said};
 ghost use Rattle.ctrack.specs.Kinds.{toldOf};
 ghost use Rattle.sines.specs.Kinds.{numberOf, sineType};
-ghost use Rattle.ctrack.specs.Lent.{TrackLeft, OptionTold, Written, Reserved, NoteWritten, CycleWritten, CcTold, ListLeft, ValueLeft, VelocityLeft, SizeTold, ParamLeft, ParamTold, ParamTaken, LayersLeft, LayersSum, TimeTold};
+ghost use Rattle.ctrack.specs.Lent.{TrackLeft, OptionTold, Written, Reserved, NoteWritten, CycleWritten, CcTold, ListLeft, ChunkLeft, ValueLeft, VelocityLeft, SizeTold, ParamLeft, ParamTold, ParamTaken, LayersLeft, LayersSum, TimeTold};
 use budget::Budget;
 use budget::BudgetAnswer;
 use cutting::CcValue;
@@ -998,6 +999,29 @@ pub extern "C" fn dollavir_full_cut(
 {
     let r = cutting::full_cut(events, *count, cut, store);
     *count = r.count;
+    r.code
+}
+
+// ---- a file's track chunk
+// Writes the events as a track chunk of Standard MIDI Files 1.0 at the start of `out`, with full status on every
+// event and the end of track last. Leaves the bytes of the chunk in `bytes`, 0 where it refuses; those behind it are
+// left. Refuses 1, 4; 10 a list that is not in order, whose first time is below 0 or that has a gap above
+// 268,435,455; 11 a kind that is not written, or a field outside its width; 12 an output that is too short. Then the
+// output is left as it is.
+#[no_mangle]
+pub extern "C" fn dollavir_write_chunk(
+    events: &[i64],
+    count: usize,
+    store: &[u8],
+    out: &mut [u8],
+    bytes: &mut usize,
+) -> u32
+    ensures { λ r. ⌜ ChunkLeft (chunkWritten (length (now (store .entry))) (now (events .entry)) count (length (now (out .entry))))
+        (chunkLeft (length (now (store .entry))) (now (events .entry)) count (now (out .entry)))
+        r (now (bytes .exit)) (now (out .exit)) ⌝ }
+{
+    let r = chunks::write_chunk(events, count, store, out);
+    *bytes = r.bytes;
     r.code
 }
 

@@ -6,3 +6,4 @@ pub mod Large
 pub mod Linked
 pub mod Cut
 pub mod Loop
+pub mod Chunk

@@ -1,4 +1,5 @@
--- Where what is held passes the tests of 1 and 4, the number that a call answers asks its arguments, a time that would result, and room: `asks-alone`. So
+-- Where what is held passes the tests of 1 and 4, the number that a call answers asks its arguments, a time that would result, room, and of a chunk whether the list
+-- can be written: `asks-alone`. So
 -- from the makers on, after any series of calls, no call is refused with 1 or 4 for something that the library made: `made-asks-alone`.
 use mathlib.Core.Path.{_≡_, refl, sym, ap, ap₂, _∙_}
 use mathlib.Core.Bool.{Bool, true, false, cond, _&&_, _||_}
@@ -23,6 +24,7 @@ use Rattle.eventlist.specs.Rows.{recordWidth, rowsOf, eventsOf}
 use Rattle.eventlist.specs.Sound.{isList, okEvents}
 use Rattle.eventlist.specs.Bends.{bendsRefusal}
 use Rattle.sorting.specs.Sorting.{sortRefusal}
+use Rattle.chunks.specs.Writing.{unwritten, chunkRefusal}
 use Rattle.notes.specs.Notes.{splitRefusal}
 use Rattle.cutting.specs.declared.Cut.{Cut}
 use Rattle.cutting.specs.Cuts.{plain, whole, fitsCut, cutRefusal}
@@ -73,7 +75,7 @@ use Rattle.reserving.specs.Old.{normal, aloneRefusal, removeCcOnNote, removeCcO
 use Rattle.reserving.proofs.Answering as answering
 use Rattle.track.specs.Reading.{ccTrackRefusal, ccOfTrack}
 use Rattle.track.specs.Series.{Held, Sound, Call, afterAll}
-use Rattle.track.specs.Series.{set-timepos, set-channel, set-cc-on-time-freq, set-pb-on-time-freq, calc-v-on-time, calc-t-on-time, calc-qlen-on-time, calc-o-on-time, calc-l-on-time, calc-v-on-note, calc-t-on-note, calc-qlen-on-note, calc-o-on-note, calc-l-on-note, set-v-sub, set-v-sub-random, set-v-sub-on-time, set-v-sub-on-cycle, set-v-sub-on-note, apply-v-sub, set-param-on-time, set-param-on-cycle, set-param-on-note, clear-param-reserve, set-param-random, set-param-range, clear-param-range, set-param-delay, set-param-max, clear-param-max, set-param-repeat, set-delay, set-random, set-range, clear-range, set-repeat, remove-cc-on-note, remove-cc-on-note-wave, get-write-opt, remove-reserve, set-on-note, set-on-note-wave, set-on-note-sine, set-on-cycle, remove-cc-on, set-cc-on-note, set-cc-on-note-wave, set-pb-on-note-wave, remove-pb-on-note-wave, write-on-time, write-cc-on-time, write-pb-on-time, write-sine, write-cc-on-note, write-cc-on-note-wave, write-cc-on-cycle, remove-pitch-bend-in-range, normalize, play-from, full-cut, events-sort, split-note-off, current-cc-value}
+use Rattle.track.specs.Series.{set-timepos, set-channel, set-cc-on-time-freq, set-pb-on-time-freq, calc-v-on-time, calc-t-on-time, calc-qlen-on-time, calc-o-on-time, calc-l-on-time, calc-v-on-note, calc-t-on-note, calc-qlen-on-note, calc-o-on-note, calc-l-on-note, set-v-sub, set-v-sub-random, set-v-sub-on-time, set-v-sub-on-cycle, set-v-sub-on-note, apply-v-sub, set-param-on-time, set-param-on-cycle, set-param-on-note, clear-param-reserve, set-param-random, set-param-range, clear-param-range, set-param-delay, set-param-max, clear-param-max, set-param-repeat, set-delay, set-random, set-range, clear-range, set-repeat, remove-cc-on-note, remove-cc-on-note-wave, get-write-opt, remove-reserve, set-on-note, set-on-note-wave, set-on-note-sine, set-on-cycle, remove-cc-on, set-cc-on-note, set-cc-on-note-wave, set-pb-on-note-wave, remove-pb-on-note-wave, write-on-time, write-cc-on-time, write-pb-on-time, write-sine, write-cc-on-note, write-cc-on-note-wave, write-cc-on-cycle, remove-pitch-bend-in-range, normalize, play-from, full-cut, events-sort, split-note-off, current-cc-value, write-chunk}
 use Rattle.track.specs.Numbers.{numberOf, own, targeted, reserved, drawn, timed, split, stays}
 use Rattle.track.proofs.Series.{made, made-stays-sound}
 
@@ -330,6 +332,10 @@ module _ (h : Held) (s : Sound h) where
   unfolding splitRefusal
   split-code out = rw (s .list, s .events)
 
+  chunk-code : (out : List ℕ) → chunkRefusal (h .store) (h .list) (h .count) (length out) ≡ unwritten (eventsOf (h .list) (h .count)) (length out)
+  unfolding chunkRefusal
+  chunk-code out = rw (s .list, s .events)
+
   normal-code : splitRefusal (h .store) (h .list) (h .count) (length (h .list)) ≡ split (h .list) (h .count) (h .list)
   normal-code = split-code (h .list) ∙ ap (λ (t : Bool). cond t (split (h .list) (h .count) (h .list)) 1) whole-list
 
@@ -402,6 +408,7 @@ asks-alone (full-cut cut) h s = cut-code h s (whole cut)
 asks-alone events-sort h s = sort-code h s
 asks-alone (split-note-off out) h s = split-code h s out
 asks-alone (current-cc-value x) h s = cc-code h s x
+asks-alone (write-chunk out) h s = chunk-code h s out
 
 -- ---- from the makers on, after any series of calls
 pub made-asks-alone : (timebase channel : ℤ) (cs : List Cycle) (seed maximum : ℕ) (l : List ℤ) (store : ℕ)

@@ -1,6 +1,6 @@
 -- 01, "Numbers that come back": "1 to 7 return the given state and change nothing". Refused says it of what is handed by value; here it
--- is said, under each call's name, of the calls that are lent a list, a budget or a table: every number of the list, every record
--- of the table and the budget are as they were.
+-- is said, under each call's name, of the calls that are lent a list, an output, a budget or a table: every number of the list,
+-- every byte of the output, every record of the table and the budget are as they were.
 --     of-list        the event list's calls
 --     of-writes      curves, sines, notes, waves and cycles, the budget and the table handed by value
 --     of-reserving   the setters of a reservation, the cycle table handed by value
@@ -18,6 +18,8 @@ use Rattle.budget.specs.declared.Budget.{Budget}
 use Rattle.eventlist.specs.declared.Taken.{Taken}
 use Rattle.eventlist.specs.Bends.{bendsTaken, bendsLeft}
 use Rattle.sorting.specs.Sorting.{sortRefusal, sortLeft}
+use Rattle.chunks.specs.declared.Chunk.{Chunk}
+use Rattle.chunks.specs.Writing.{chunkRefusal, refusedChunk, chunkWritten, chunkLeft}
 use Rattle.notes.specs.Notes.{splitTaken, splitLeft}
 use Rattle.cutting.specs.declared.CcValue.{CcValue}
 use Rattle.cutting.specs.Cuts.{plain, whole, cutTaken, cutLeft}
@@ -48,15 +50,15 @@ use Rattle.track.proofs.Refused.{Unchanged}
 
 -- ---- the law, of any answer with a number and a list that is lent
 -- the answer r is r′, the list's numbers m are l
-pub record Left {R : Type 0} (r r′ : R) (m l : List ℤ) : Type 0 where
+pub record Left {R B : Type 0} (r r′ : R) (m l : List B) : Type 0 where
   pub answer : r ≡ r′
   pub list : m ≡ l
 
-module _ {R : Type 0} (code : R → ℕ) (back : ℕ → R) (l : List ℤ) where
-  abbrev pub BothUnchanged : R → List ℤ → Type 0
+module _ {R B : Type 0} (code : R → ℕ) (back : ℕ → R) (l : List B) where
+  abbrev pub BothUnchanged : R → List B → Type 0
   BothUnchanged r m = (code r ≡ 0 → ⊥) → Left r (back (code r)) m l
 
-  pub together : (t : Bool) (n : ℕ) (r : R) (m : List ℤ) → code r ≡ 0 → code (back n) ≡ n → BothUnchanged (cond t r (back n)) (cond t m l)
+  pub together : (t : Bool) (n : ℕ) (r : R) (m : List B) → code r ≡ 0 → code (back n) ≡ n → BothUnchanged (cond t r (back n)) (cond t m l)
   together true n r m z e h = absurd (h z)
   together false n r m z e h = record { answer = ap back (sym e); list = refl }
 
@@ -77,6 +79,9 @@ module _ (count : ℕ) (l : List ℤ) where
 abbrev pub AllKept : Track → List Cycle → Kept → Type 0
 AllKept a cs = Unchanged (λ (r : Kept). r .code) (λ n. reserving.answer n a cs)
 
+abbrev pub ChunkKept : List ℕ → Chunk → List ℕ → Type 0
+ChunkKept out = BothUnchanged (λ (r : Chunk). r .code) refusedChunk out
+
 abbrev pub NoValue : CcValue → Type 0
 NoValue = Unchanged (λ (r : CcValue). r .code) (λ n. record { code = n; value = pos 0 })
 
@@ -92,6 +97,7 @@ pub record OfList (store : ℕ) (l : List ℤ) (count : ℕ) : Type 0 where
   pub play-from : (cut : ℤ) → TakenKept count l (cutTaken store l count (plain cut)) (cutLeft store l count (plain cut))
   pub full-cut : (cut : ℤ) → TakenKept count l (cutTaken store l count (whole cut)) (cutLeft store l count (whole cut))
   pub current-cc-value : (a : Track) (number : ℤ) → NoValue (ccOfTrack store a number l count)
+  pub write-chunk : (out : List ℕ) → ChunkKept out (chunkWritten store l count (length out)) (chunkLeft store l count out)
 
 pub of-list : (store : ℕ) (l : List ℤ) (count : ℕ) → OfList store l count
 unfolding ccOfTrack
@@ -104,6 +110,7 @@ of-list store l count =
       play-from = λ cut. taken-kept _ _ count _ l;
       full-cut = λ cut. taken-kept _ _ count _ l;
       current-cc-value = λ a number h. rw (ne-eqb _ 0 h);
+      write-chunk = λ out h. let e = ne-eqb (chunkRefusal store l count (length out)) 0 h in record { answer = rw e; list = rw e };
     }
 
 -- ---- the writes

@@ -1,6 +1,7 @@
 -- A product holds a track, sixteen cycle records, a budget and an event list, with a store of bytes that is never written, and makes one call after the
 -- other, each on what the one before left. Here: what is held, what 1 and 4 ask of it, every public call over it, and what a call leaves.
--- A call that is refused leaves what was held, as its definition says; a call that only asks (`get-write-opt`, `current-cc-value`) leaves it too.
+-- A call that is refused leaves what was held, as its definition says; a call that only asks (`get-write-opt`, `current-cc-value`) leaves it too, and so does
+-- `write-chunk`, whose output is no part of it.
 use mathlib.Core.Path.{_≡_}
 use mathlib.Core.Bool.{true, cond}
 use mathlib.Core.List.{List, [], _∷_}
@@ -117,6 +118,7 @@ pub data Call : Type 0 where
   events-sort : Call
   split-note-off : List ℤ → Call
   current-cc-value : ℤ → Call
+  write-chunk : List ℕ → Call
 
 -- ---- what it leaves
 module _ (h : Held) where
@@ -206,6 +208,7 @@ after (split-note-off out) h =
     let r = splitTaken (h .store) (h .list) (h .count) out in
     cond (eqb (r .code) 0) (withList h (splitLeft (h .store) (h .list) (h .count) out 0) (r .count)) h
 after (current-cc-value number) h = h
+after (write-chunk out) h = h
 
 unfoldable pub afterAll : List Call → Held → Held
 afterAll [] h = h

@@ -89,6 +89,8 @@ pub use waving::write_cc_on_note_wave;
 pub use writing::Outcome;
 
 // ---- the event list
+pub use chunks::Chunk;
+pub use chunks::write_chunk;
 pub use cutting::CcValue;
 pub use cutting::full_cut;
 pub use cutting::play_from;
