@@ -1,5 +1,6 @@
 // Family 3: the list, lent as the desk says. What the Rust has no call for (301 to 303) tests here what a call of the
 // port tests. Call 305 is not here.
+use crate::output::put_chunk;
 use crate::record::event_of;
 use crate::record::numbers_of;
 use cutting::full_cut;
@@ -181,7 +182,8 @@ fn settled(desk: Desk, r: Listed) -> Called {
     answered(answer, with_split(d, r.split))
 }
 
-pub fn carry_out(
+// A call that is lent the list, and the second slice as a list.
+fn on_lists(
     op: i64,
     args: &[i64],
     desk: Desk,
@@ -203,4 +205,31 @@ pub fn carry_out(
         desk,
         on_list(op, args, own, h, &mut events[..n], &mut second[..m], store),
     )
+}
+
+// 311: what the call leaves in its output is shown in the second slice.
+fn chunk(args: &[i64], desk: Desk, events: &[i64], second: &mut [i64], store: &[u8]) -> Called {
+    let own = desk.count;
+    let h = handed(own, desk.room, desk.extra);
+    let n = numbers_in(desk.room, desk.odd);
+    if events.len() < n {
+        return answered(unknown(), desk);
+    }
+    let put = put_chunk(&events[..n], h, store, as_usize(arg(args, 0)), second);
+    let answer = put.answer;
+    answered(answer, with_split(desk, put.numbers))
+}
+
+pub fn carry_out(
+    op: i64,
+    args: &[i64],
+    desk: Desk,
+    events: &mut [i64],
+    second: &mut [i64],
+    store: &[u8],
+) -> Called {
+    if op == 311 {
+        return chunk(args, desk, events, second, store);
+    }
+    on_lists(op, args, desk, events, second, store)
 }

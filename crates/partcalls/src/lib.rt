@@ -5,4 +5,5 @@ pub mod family1;
 pub mod family2;
 pub mod family3;
 pub mod family4;
+mod output;
 mod record;

@@ -19,6 +19,7 @@ use stored::Row;
 use stored::show_row;
 use waiting::show_table;
 use written::show_list;
+use written::show_numbers;
 
 // The most sections that a call shows.
 const MOST_SECTIONS: usize = 10;
@@ -35,19 +36,20 @@ fn letter_in(rows: &[u8], i: usize) -> u8 {
 fn row_of_call(op: i64) -> u32 {
     match op {
         306 => 11,
+        311 => 12,
         418 => 0,
         915 => 10,
         _ => family_of(op),
     }
 }
 
-// Section i of a row, a space where there is none: families 0 to 9, then 915 and 306. `p` is P of the parameter that the
+// Section i of a row, a space where there is none: families 0 to 9, then 915, 306 and 311. `p` is P of the parameter that the
 // call named.
 fn letter_of(row: u32, i: usize) -> u8 {
-    if row < 12 {
+    if row < 13 {
         if i < MOST_SECTIONS {
             return letter_in(
-                b"                    B         E         p         TPL       EBO       EBTONWSC  T                   EBTOPLNWSCER        ",
+                b"                    B         E         p         TPL       EBO       EBTONWSC  T                   EBTOPLNWSCER        EK        ",
                 row as usize * 10 + i,
             );
         }
@@ -78,6 +80,7 @@ fn section(
         b'B' | b'T' => show_row(pen, out, letter, numbers_of(letter, desk)),
         b'E' => show_list(pen, out, letter, events, desk.count, store),
         b'R' => show_list(pen, out, letter, second, desk.split, store),
+        b'K' => show_numbers(pen, out, letter, second, desk.split),
         b'O' => show_options(pen, out, desk),
         b'P' => show_params(pen, out, desk),
         b'p' => show_named(pen, out, desk),

@@ -1,4 +1,4 @@
-// E and R: the event lists.
+// E and R: the event lists. K: numbers as they stand.
 use crate::stored::counted;
 use desk::MOST_RECORDS;
 use eventlist::WIDTH;
@@ -95,4 +95,21 @@ pub fn show_list(
     let q = number(p, out, counted(count));
     let r = put_records(q, out, events, count, store);
     end(r, out)
+}
+
+// The first `count` numbers.
+fn put_numbers(pen: Pen, out: &mut [u8], numbers: &[i64], count: usize) -> Pen {
+    let mut p = pen;
+    let mut i: usize = 0;
+    while i < count {
+        p = number(p, out, arg(numbers, i));
+        i += 1;
+    }
+    p
+}
+
+pub fn show_numbers(pen: Pen, out: &mut [u8], letter: u8, numbers: &[i64], count: usize) -> Pen {
+    let p = begin(pen, out, letter);
+    let q = put_numbers(p, out, numbers, count);
+    end(q, out)
 }

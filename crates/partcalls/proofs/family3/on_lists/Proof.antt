@@ -1,9 +1,9 @@
--- `carry_out` is safe: the first n numbers are n numbers.
+-- `on_lists` is safe: the first n numbers are n numbers.
 use mathlib.Core.Path.{sym}
 use lib.Seq.{length-take-le}
 use borrow.Author.Needs.{needs}
-use Rattle.partcalls.proofs.family3.carry_out.Statement.{statement}
-use Rattle.partcalls.proofs.family3.carry_out.Tie as tie
+use Rattle.partcalls.proofs.family3.on_lists.Statement.{statement}
+use Rattle.partcalls.proofs.family3.on_lists.Tie as tie
 
 handed-requires : tie.Need-handed-requires
 handed-requires c κs = search needs
@@ -59,8 +59,8 @@ same-length-2 c = search needs
 returns-3 : tie.Need-returns-3
 returns-3 c = search needs
 
-pub carry-out-spec : {M : Type 1} → statement M
-carry-out-spec =
+pub on-lists-spec : {M : Type 1} → statement M
+on-lists-spec =
     tie.close
     (tie.spec
     handed-requires
