@@ -7,14 +7,15 @@ use crate::original::*;
 use crate::rules;
 use crate::script::Step;
 use crate::sine::{write_sine, Quarter};
-use crate::{poke, private, table};
+use crate::{poke, private, smf, table};
 
-/// What a call answers; `result` is the list of `split_note_off`.
+/// What a call answers; `result` is the list of `split_note_off`, `bytes` the output of `write_chunk` after it.
 #[derive(Default)]
 pub struct Reply {
     pub code: i64,
     pub answers: Vec<i64>,
     pub result: Vec<Record>,
+    pub bytes: Vec<u8>,
 }
 
 fn refused(code: i64) -> Reply {
@@ -33,7 +34,7 @@ pub fn make(desk: &mut Desk, quarter: &Quarter, step: &Step) -> Reply {
     let Some(call) = table::find(step.op) else { return refused(-1) };
     let code = rules::refusal(desk, call, step);
     if code != 0 {
-        return refused(code);
+        return Reply { bytes: output(step), ..refused(code) };
     }
     let (a, list) = step.parts();
     match step.op / 100 {
@@ -46,6 +47,15 @@ pub fn make(desk: &mut Desk, quarter: &Quarter, step: &Step) -> Reply {
         7 => reserved(desk, quarter, step.op, a, list),
         8 => numbered(desk, step.op, a),
         _ => poke::make(desk, step.op, a),
+    }
+}
+
+/// The output that a call is lent, as it finds it; empty for all but `write_chunk`.
+fn output(step: &Step) -> Vec<u8> {
+    if step.op == 311 {
+        smf::output(step.args[0])
+    } else {
+        vec![]
     }
 }
 
@@ -165,7 +175,12 @@ fn listed(desk: &mut Desk, op: i64, a: &[i64]) -> Reply {
         307 => on_list(desk, |track| track.normalize()),
         308 => on_list(desk, |track| track.events_sort()),
         309 => on_list(desk, |track| track.play_from(x[0])),
-        _ => on_list(desk, |track| track.events = full_cut(&track.events, x[0])),
+        310 => on_list(desk, |track| track.events = full_cut(&track.events, x[0])),
+        _ => {
+            let mut bytes = smf::output(a[0]);
+            let made = smf::write_chunk(&desk.list, &mut bytes);
+            Reply { bytes, ..made.map_or_else(refused, |length| answer(&[length as i64])) }
+        }
     }
 }
 

@@ -1,4 +1,4 @@
-// Document 01's cases, "Both sides of a line", with request c)'s limit for lists, and request a)'s of the full cut, asked of the original: each is a short script in text, and lines that its last call must print in full mode. And the sines,
+// Document 01's cases, "Both sides of a line", with request c)'s limit for lists, and request a)'s of the full cut, asked of the original, and request b)'s of the track chunk, asked of smf.rs: each is a short script in text, and lines that its last call must print in full mode. And the sines,
 // whose values document 01 takes from a table of its own: how far the original's stand from it.
 
 use crate::calls;
@@ -94,6 +94,20 @@ fn cases() -> Vec<Case> {
             "904 2 5 0 7 1 0 0 0; 904 2 5 0 7 2 0 0 0; 904 2 4 0 7 3 0 0 0; 904 2 6 5 10 -1 0 0 0; 904 2 1 2 10 64 0 0 0; 310 10",
             &["E 1 2 0 5 7 2 0 0"],
         ),
+        case("02, b): the chunk of an empty list", "311 12", &["311 0 12", "K 12 77 84 114 107 0 0 0 4 0 255 47 0"]),
+        case("02, b): one byte less gives 12, and the output is as it was", "311 11", &["311 12", "K 11 1 6 11 16 21 26 31 36 41 46 51"]),
+        case(
+            "02, b): a note of one quarter, 00 90 3C 64 60 80 3C 00, whose end has velocity 64; the byte behind the chunk is as it was",
+            "904 0 0 0 60 96 100 0 0; 904 1 96 0 60 0 64 0 0; 311 21",
+            &["311 0 20", "K 21 77 84 114 107 0 0 0 12 0 144 60 100 96 128 60 0 0 255 47 0 101"],
+        ),
+        case(
+            "02, b): gaps 81 00, 81 80 00 and FF FF FF 7F, program CF 28, bend E0 00 40, controller B3 07 7F",
+            "904 5 128 15 40 0 0 0 0; 904 3 16512 0 8192 0 0 0 0; 904 2 268451967 3 7 127 0 0 0; 311 29",
+            &["311 0 29", "K 29 77 84 114 107 0 0 0 21 129 0 207 40 129 128 0 224 0 64 255 255 255 127 179 7 127 0 255 47 0"],
+        ),
+        case("02, b): a bend of 16,384 in front of a time that falls, and no output: 10", "904 3 1 0 16384 0 0 0 0; 904 3 0 0 0 0 0 0 0; 311 0", &["311 10", "K 0"]),
+        case("02, b): a bend of 16,384, and no output: 11", "904 3 1 0 16384 0 0 0 0; 311 0", &["311 11", "K 0"]),
         case("192 numbers accepted", &format!("607 7 {}", ones(LIST_LIMIT)), &["607 0"]),
         case("193 give 3", &format!("607 7 {}", ones(LIST_LIMIT + 1)), &["607 3"]),
         case("96 numbers accepted as before", &format!("607 7 {}", ones(FORMER_LIMIT)), &["607 0"]),

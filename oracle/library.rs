@@ -8,7 +8,11 @@ use crate::make::is_inner;
 use crate::other::*;
 use crate::rules::LIST_LIMIT;
 use crate::script::Step;
+use crate::smf;
 use crate::table::{self, Arg};
+
+/// How many bytes behind an output are looked at after the call.
+const BEHIND: i64 = 16;
 
 /// A refused call has zeros for answers: out-parameters hold 77 before a call, so that one which is not written shows.
 fn reply(code: u32, answers: &[i64]) -> Reply {
@@ -122,8 +126,19 @@ unsafe fn listed(desk: &mut Other, op: i64, a: &[i64]) -> Reply {
         307 => lent(desk, |it| dollavir_normalize(it.events, it.long, it.count, it.store, it.bytes)),
         308 => lent(desk, |it| dollavir_events_sort(it.events, it.long, *it.count, it.store, it.bytes)),
         309 => lent(desk, |it| dollavir_play_from(it.events, it.long, it.count, a[0], it.store, it.bytes)),
-        _ => lent(desk, |it| dollavir_full_cut(it.events, it.long, it.count, a[0], it.store, it.bytes)),
+        310 => lent(desk, |it| dollavir_full_cut(it.events, it.long, it.count, a[0], it.store, it.bytes)),
+        _ => chunk(desk, a[0]),
     }
+}
+
+/// The output stands in front of some bytes that are not lent.
+unsafe fn chunk(desk: &mut Other, room: i64) -> Reply {
+    let (before, length, mut written) = (smf::output(room + BEHIND), room as usize, 77);
+    let mut out = before.clone();
+    let made = lent(desk, |it| dollavir_write_chunk(it.events, it.long, *it.count, it.store, it.bytes, out.as_mut_ptr(), length, &mut written));
+    assert!(out[length..] == before[length..], "bytes behind the output are not as they were");
+    out.truncate(length);
+    Reply { bytes: out, ..reply(made.code as u32, &[written as i64]) }
 }
 
 unsafe fn parameter(desk: &mut Other, op: i64, a: &[i64], list: &[i32]) -> Reply {

@@ -1,9 +1,12 @@
-// Every call of some families at its limits: lent what is spoilt, handed each argument past its range, as it should be, and with no room; full lists, read at their end; and tables of sixteen. Random scripts meet all of this too,
+// Every call of some families at its limits: lent what is spoilt, handed each argument past its range, as it should be, and with no room; full lists, read at their end; tables of sixteen; and track chunks, each kind and each gap. Random scripts meet all of this too,
 // but some of it seldom: the stored samples begin with these calls.
 
+use crate::chunks::GAPS;
+use crate::desk::Record;
 use crate::make::{is_inner, Maker};
 use crate::rules::{LIST_LIMIT, PLACES};
 use crate::script::Step;
+use crate::smf;
 use crate::table::{Arg, Call, CALLS};
 
 /// A number of the desk that is spoilt, for calls that are lent one of `letters`: the call of family 9, its arguments, and those that mend it.
@@ -54,6 +57,18 @@ const FULL: &[Full] = &[
     Full { op: 706, front: &[7, 1, 16], before: &[], reads: &[&[914, 0, 3, LAST - 2], &[709, 3, 16]] },
 ];
 
+/// An event of each kind that is written; what is not written of it is past every width.
+const WRITTEN: [Record; 5] = [
+    [0, 0, 0, 60, -48, 100, 0, 0],
+    [1, 0, 1, 60, 9000, -1, 0, 0],
+    [2, 0, 9, 7, 100, 300, 0, 0],
+    [3, 0, 14, 8192, -5, 128, 0, 0],
+    [5, 0, 15, 40, 1 << 20, -1, 0, 0],
+];
+
+/// An event of each kind that is not.
+const UNWRITTEN: [Record; 4] = [[4, 0, 0, 12, 0, 0, 0, 0], [6, 0, 0, 81, 0, 0, 10, 3], [7, 0, 0, 0, 0, 0, 0, 0], [8, 0, 0, 0, 0, 0, 256, 0]];
+
 /// The desk is a script's first one again after it.
 pub fn script(seed: u64, families: &[i64]) -> Vec<Step> {
     let mut maker = Maker::new(seed, families);
@@ -74,6 +89,9 @@ pub fn script(seed: u64, families: &[i64]) -> Vec<Step> {
     maker.full_lists(families);
     if families.contains(&7) {
         maker.full_tables();
+    }
+    if families.contains(&3) {
+        maker.every_chunk();
     }
     maker.emit(902, &[96, 0, 64]);
     maker.steps
@@ -167,4 +185,46 @@ impl Maker {
             }
         }
     }
+
+    /// Each kind with its fields at both ends of their widths and one past them, each gap as the first and behind an event, each kind that is not written, and faults of different numbers one behind the other.
+    fn every_chunk(&mut self) {
+        self.chunk_of(&[]);
+        self.chunk_of(&WRITTEN);
+        for event in WRITTEN {
+            for &(field, groups) in smf::fields(event[0]) {
+                for value in [0, (1 << (7 * groups)) - 1, -1, 1 << (7 * groups)] {
+                    self.chunk_of(&[with(event, field, value)]);
+                }
+            }
+        }
+        let [note, end, ..] = WRITTEN;
+        for gap in GAPS.into_iter().chain([-1]) {
+            self.chunk_of(&[with(note, 1, gap)]);
+            self.chunk_of(&[with(note, 1, 5), with(end, 1, 5 + gap)]);
+        }
+        for event in UNWRITTEN {
+            self.chunk_of(&[note, event]);
+        }
+        let (early, loud, nowhere) = (with(note, 1, -1), with(note, 5, 128), with(note, 2, 16));
+        for list in [[early, loud, end], [loud, early, end], [early, end, nowhere], [loud, end, nowhere], [nowhere, loud, early]] {
+            self.chunk_of(&list);
+        }
+    }
+
+    /// A list with an output as long as its chunk, a byte longer and a byte shorter; where it has none, with no output, one shorter than any chunk, and one that would do.
+    fn chunk_of(&mut self, list: &[Record]) {
+        self.emit(902, &[96, 0, 8]);
+        for event in list {
+            self.emit(904, event);
+        }
+        for room in self.chunk_length().map_or([0, 11, 64], |exact| [exact, exact + 1, exact - 1]) {
+            self.emit(311, &[room]);
+        }
+    }
+}
+
+/// The event with another number in one field.
+fn with(mut event: Record, field: usize, number: i64) -> Record {
+    event[field] = number;
+    event
 }

@@ -4,6 +4,7 @@
 //     linked SEED COUNT FAMILIES [SEEDS]      so many scripts, their seeds rising; ends at the first difference
 //     linked SEED edges                       one script of cycle calls at their edge
 //     linked SEED merged COUNT                one script of full cuts of lists that are not sorted
+//     linked SEED chunks COUNT                one script of track chunks at the edges of what one holds
 //     linked SEED passage COUNT               so many lists and their full cuts, played: of the port alone
 //     linked bench                            times of some calls on both sides
 
@@ -15,6 +16,7 @@ mod dollavir;
 mod original;
 
 mod calls;
+mod chunks;
 mod cut;
 mod desk;
 mod dice;
@@ -31,6 +33,7 @@ mod rules;
 mod script;
 mod show;
 mod sine;
+mod smf;
 mod spoil;
 mod stand_ins;
 mod table;
@@ -157,7 +160,7 @@ impl Pair {
     fn sections(&self, letters: &str, step: &Step, original: &Reply, port: &Reply) -> Result<(), Difference> {
         for letter in letters.chars() {
             let theirs = show::section(&self.desk, step, original, letter);
-            let ours = self.port.section(step.op, &step.args, &port.result, letter);
+            let ours = self.port.section(step.op, &step.args, port, letter);
             same(&format!("section {letter}"), &theirs, &ours)?;
         }
         Ok(())
@@ -174,6 +177,9 @@ impl Pair {
         }
         if !matches!(step.op, 205 | 607..=610 | 707..=709) {
             kept("the budget", &before.budget, &after.budget)?;
+        }
+        if matches!(step.op, 305 | 306 | 311) {
+            kept("the list", &before.events, &after.events)?;
         }
         kept("the record past the cycle table", &before.cycles[16], &after.cycles[16])
     }
@@ -276,11 +282,12 @@ fn main() {
         ["bench"] => timing::print(),
         [seed, "edges"] => compare_all(number(seed), 1, edges::script),
         [seed, "merged", count] => compare_all(number(seed), 1, |seed| merged::script(seed, number(count) as usize)),
+        [seed, "chunks", count] => compare_all(number(seed), 1, |seed| chunks::script(seed, number(count) as usize)),
         [seed, "passage", count] => std::process::exit(i32::from(!passage::run(number(seed), number(count) as usize))),
         [seed, count, families] => compare_all(number(seed), 1, random(count, families)),
         [seed, count, families, seeds] => compare_all(number(seed), number(seeds), random(count, families)),
         _ => {
-            eprintln!("linked SEED COUNT FAMILIES [SEEDS] | SEED edges | SEED merged COUNT | SEED passage COUNT | bench");
+            eprintln!("linked SEED COUNT FAMILIES [SEEDS] | SEED edges | SEED merged COUNT | SEED chunks COUNT | SEED passage COUNT | bench");
             std::process::exit(2);
         }
     }

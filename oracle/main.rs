@@ -5,6 +5,7 @@
 //     oracle limits SEED FAMILIES > script        every call of the families at its limits
 //     oracle edges SEED > script    cycle calls at the edge of what one may write; `oracle edges SEED names` prints each case's first call and its name
 //     oracle merged SEED COUNT > script           full cuts of lists that are not sorted; `oracle merged SEED COUNT figures` prints what they are like
+//     oracle chunks SEED COUNT > script           track chunks at the edges of what one holds; `oracle chunks SEED COUNT figures` prints what they are like
 //     oracle text < script          one call a line; `oracle binary < text` goes back
 //     oracle cases                  document 01's cases that need only the original
 //     oracle sines SEED COUNT       document 01's sine values beside the original's
@@ -19,6 +20,7 @@ mod original;
 
 mod calls;
 mod cases;
+mod chunks;
 mod cut;
 mod desk;
 mod dice;
@@ -33,6 +35,7 @@ mod rules;
 mod script;
 mod show;
 mod sine;
+mod smf;
 mod spoil;
 mod stand_ins;
 mod table;
@@ -60,6 +63,8 @@ fn main() -> Result<()> {
         }
         ["merged", seed, count] => script::write(&merged::script(number(seed), number(count) as usize), &mut out)?,
         ["merged", seed, count, "figures"] => merged::print(number(seed), number(count) as usize, &mut out)?,
+        ["chunks", seed, count] => script::write(&chunks::script(number(seed), number(count) as usize), &mut out)?,
+        ["chunks", seed, count, "figures"] => chunks::print(number(seed), number(count) as usize, &mut out)?,
         ["text"] => {
             for step in script::read(&mut stdin())? {
                 writeln!(out, "{}", step.text())?;
@@ -107,7 +112,7 @@ fn main() -> Result<()> {
             }
         }
         _ => {
-            eprintln!("oracle run | make SEED COUNT FAMILIES | limits SEED FAMILIES | edges SEED [names] | merged SEED COUNT [figures] | text | binary | cases | sines SEED COUNT | tape | tapes SEED COUNT | tapes lists | plays | each PROGRAM.. | pick N | thin N");
+            eprintln!("oracle run | make SEED COUNT FAMILIES | limits SEED FAMILIES | edges SEED [names] | merged SEED COUNT [figures] | chunks SEED COUNT [figures] | text | binary | cases | sines SEED COUNT | tape | tapes SEED COUNT | tapes lists | plays | each PROGRAM.. | pick N | thin N");
             std::process::exit(2);
         }
     }

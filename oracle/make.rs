@@ -1,7 +1,7 @@
 // Random scripts. The maker keeps a desk of its own beside the script, so that it knows what stands in the list and the tables: it can name what is there, spoil one number,
 // make calls that meet it, and put it back. A call that the original could not bear is never made; what scripts leave out, docs/COMPARING.md says.
 
-use crate::calls;
+use crate::calls::{self, Reply};
 use crate::desk::*;
 use crate::dice::Dice;
 use crate::rules::{FORMER_LIMIT, LIST_LIMIT};
@@ -50,6 +50,7 @@ pub fn script(seed: u64, count: usize, families: &[i64]) -> Vec<Step> {
             22 if maker.has(&[6]) && maker.has(&[7]) && maker.dice.one_in(30) => maker.plenty(),
             23 if maker.has(&[7]) && maker.dice.one_in(8) => maker.many_writes(),
             24 if maker.has(&[4, 5, 7]) && maker.dice.one_in(20) => maker.walk(),
+            25 if maker.has(&[3]) => maker.written_list(),
             _ => maker.any_call(|_| true),
         }
     }
@@ -82,9 +83,15 @@ impl Maker {
     }
 
     pub fn emit(&mut self, op: i64, args: &[i64]) {
+        self.answered(op, args);
+    }
+
+    /// The same, for one who asks what the call answers.
+    pub fn answered(&mut self, op: i64, args: &[i64]) -> Reply {
         let step = Step { op, args: args.to_vec() };
-        calls::make(&mut self.desk, &self.quarter, &step);
+        let reply = calls::make(&mut self.desk, &self.quarter, &step);
         self.steps.push(step);
+        reply
     }
 
     fn new_desk(&mut self) {
@@ -193,6 +200,13 @@ impl Maker {
         }
     }
 
+    /// A list as a chunk's scripts have them: those that come about here can seldom be written. It stays for what follows, where it is sound.
+    fn written_list(&mut self) {
+        if self.chunks().faults.contains(&4) {
+            self.emit(902, &[96, 0, 64]);
+        }
+    }
+
     /// One call that `wanted` allows, of the families asked for; nothing where there is none.
     pub fn any_call(&mut self, wanted: impl Fn(&Call) -> bool) {
         let fits = CALLS.iter().filter(|call| self.families.contains(&(call.op / 100)) && call.op < 900 && wanted(call));
@@ -240,6 +254,7 @@ impl Maker {
             }
             302 if self.desk.list.is_empty() => None,
             302 => Some(vec![dice.pick(0, self.desk.list.len() as i64 - 1)]),
+            311 => Some(vec![self.room()]),
             _ => Some(self.by_kind(call, spoilt)),
         }
     }

@@ -1,6 +1,7 @@
 // The desk that the linked port works at: what a C caller would hold and lend, and nothing of the original. Family 9 puts numbers into it as they stand; its sections
 // are those of show.rs, read from the port's own records.
 
+use crate::calls::Reply;
 use crate::desk::{byte, key_of, Desk, Record, STORE};
 use crate::dollavir::*;
 use crate::show;
@@ -145,12 +146,13 @@ impl Other {
         }
     }
 
-    /// The numbers of one section; `result` is what `split_note_off` answered.
-    pub fn section(&self, op: i64, args: &[i64], result: &[Record], letter: char) -> Vec<i64> {
+    /// The numbers of one section; `reply` is what the call answered, the second list or the output.
+    pub fn section(&self, op: i64, args: &[i64], reply: &Reply, letter: char) -> Vec<i64> {
         let track = &self.track;
         match letter {
             'E' => show::list(&records(&self.events, self.count)),
-            'R' => show::list(result),
+            'R' => show::list(&reply.result),
+            'K' => show::output(&reply.bytes),
             'B' => [self.budget.seed, self.budget.maximum, self.budget.used, self.budget.over].map(i64::from).to_vec(),
             'T' => numbers(track),
             'O' => options(track),

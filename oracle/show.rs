@@ -31,6 +31,7 @@ pub fn section(desk: &Desk, step: &Step, reply: &Reply, letter: char) -> Vec<i64
     match letter {
         'E' => list(&desk.list),
         'R' => list(&reply.result),
+        'K' => output(&reply.bytes),
         'B' => vec![desk.budget.seed, desk.budget.maximum, desk.budget.used, desk.budget.flag],
         'T' => track(desk),
         'O' => options(desk),
@@ -48,6 +49,7 @@ pub fn section(desk: &Desk, step: &Step, reply: &Reply, letter: char) -> Vec<i64
 pub fn sections(step: &Step) -> &'static str {
     match step.op {
         306 => "ER",
+        311 => "EK",
         418 => "",
         915 => "EBTOPLNWSC",
         op => match op / 100 {
@@ -81,6 +83,10 @@ pub fn list(records: &[Record]) -> Vec<i64> {
         }
     }
     out
+}
+
+pub fn output(bytes: &[u8]) -> Vec<i64> {
+    std::iter::once(bytes.len() as i64).chain(bytes.iter().map(|&byte| i64::from(byte))).collect()
 }
 
 fn track(desk: &Desk) -> Vec<i64> {

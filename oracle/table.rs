@@ -30,6 +30,8 @@ pub enum Arg {
     Layer,
     /// How many cycle records are lent; refused with 1.
     Places,
+    /// How many bytes of output are lent: scripts hold only 0 to 81,920.
+    Room,
     /// A stretch of the byte store starts here; its length follows.
     Offset,
     Length,
@@ -105,6 +107,7 @@ pub const CALLS: &[Call] = &[
     call(308, "events_sort", "E", &[]),
     call(309, "play_from", "E", &[Time]),
     call(310, "full_cut", "E", &[Time]),
+    call(311, "write_chunk", "E", &[Room]),
     call(401, "param_new", "", &[PARAM]),
     call(402, "param_clear_reserve", "P", &[PARAM]),
     call(403, "param_has_reserve", "P", &[PARAM]),

@@ -1,7 +1,8 @@
 // Some calls of the linked port beside the original's, timed in one process. Both sides make the call once first, and what it writes is compared. A figure is the median of
-// batches that take turns; docs/PERFORMANCE.md says what was seen.
+// batches that take turns; docs/PERFORMANCE.md says what was seen. The original has no track chunk of such a list: an ordinary writer with no tests stands in its place.
 
-use crate::desk::records_of;
+use crate::desk::{records_of, Record};
+use crate::dice::Dice;
 use crate::dollavir;
 use crate::original::*;
 use crate::other::{records, Other};
@@ -28,20 +29,35 @@ impl Theirs {
 
 /// A call on either side. Those that write begin with an empty list and the whole budget free.
 fn line(name: &str, mut theirs: Theirs, mut ours: Other, their: impl Fn(&mut Theirs), our: impl Fn(&mut Other) -> u32) {
+    timed(
+        name,
+        CALLS,
+        &mut theirs,
+        &mut ours,
+        their,
+        |it| {
+            it.count = 0;
+            it.budget = dollavir::Budget { seed: 1, maximum: BYTES as u32, used: 0, over: 0 };
+            assert!(our(it) == 0, "{name}: refused");
+        },
+        |theirs, ours| records_of(&theirs.track.events) == records(&ours.events, ours.count),
+    );
+}
+
+/// Times so many calls a batch and prints the row; `same` holds what the two sides left against each other after each batch.
+fn timed<T, O>(name: &str, calls: usize, theirs: &mut T, ours: &mut O, their: impl Fn(&mut T), our: impl Fn(&mut O), same: impl Fn(&T, &O) -> bool) {
     let mut times = [vec![], vec![]];
     for batch in 0..=BATCHES {
         let start = Instant::now();
-        for _ in 0..CALLS {
-            their(&mut theirs);
+        for _ in 0..calls {
+            their(theirs);
         }
         let middle = Instant::now();
-        for _ in 0..CALLS {
-            ours.count = 0;
-            ours.budget = dollavir::Budget { seed: 1, maximum: BYTES as u32, used: 0, over: 0 };
-            assert!(our(&mut ours) == 0, "{name}: refused");
+        for _ in 0..calls {
+            our(ours);
         }
         let end = Instant::now();
-        assert!(records_of(&theirs.track.events) == records(&ours.events, ours.count), "{name}: the two sides do not leave the same list");
+        assert!(same(theirs, ours), "{name}: the two sides do not leave the same");
         // The first batch warms both sides up.
         if batch > 0 {
             times[0].push(middle - start);
@@ -50,7 +66,7 @@ fn line(name: &str, mut theirs: Theirs, mut ours: Other, their: impl Fn(&mut The
     }
     let [theirs, ours] = times.map(|mut times| {
         times.sort();
-        times[BATCHES / 2].as_secs_f64() * 1e6 / CALLS as f64
+        times[BATCHES / 2].as_secs_f64() * 1e6 / calls as f64
     });
     println!("| {name} | {theirs:.3} | {ours:.3} | {:.1} |", ours / theirs);
 }
@@ -75,6 +91,9 @@ pub fn print() {
     curve(1920);
     cycle(5);
     cycle(500);
+    for events in [100, 1_000, 10_000] {
+        chunk(events);
+    }
 }
 
 fn setter() {
@@ -176,5 +195,74 @@ fn cycle(writes: i64) {
                 &mut it.count,
             )
         },
+    );
+}
+
+/// A list such as a voice has: notes and their ends, a controller or a bend between them, now and then a program; many at one time, the others some steps apart.
+fn voice(events: usize) -> Vec<Record> {
+    let (mut dice, mut time) = (Dice::new(1), 0);
+    (0..events)
+        .map(|_| {
+            time += dice.of(&[0, 0, 0, 6, 12, 24, 48, 192]);
+            let (kind, channel) = (dice.of(&[0, 0, 0, 0, 0, 0, 0, 1, 1, 1, 1, 1, 1, 1, 2, 2, 2, 2, 3, 5]), dice.pick(0, 3));
+            let (note, value) = (dice.pick(36, 96), dice.pick(1, 127));
+            match kind {
+                0 => [0, time, channel, note, 48, value, 0, 0],
+                1 => [1, time, channel, note, 0, 0, 0, 0],
+                2 => [2, time, channel, dice.of(&[1, 7, 10, 11, 64]), value, 0, 0, 0],
+                3 => [3, time, channel, dice.pick(0, 16_383), 0, 0, 0, 0],
+                _ => [5, time, channel, value, 0, 0, 0, 0],
+            }
+        })
+        .collect()
+}
+
+/// A track chunk as it is usually written: nothing is tested, and the buffer has room for all of it.
+fn plain_chunk(events: &[Record], out: &mut Vec<u8>) {
+    out.clear();
+    out.reserve(12 + 7 * events.len());
+    out.extend_from_slice(b"MTrk\0\0\0\0");
+    let mut before = 0;
+    for &[kind, time, channel, v1, v2, v3, ..] in events {
+        let gap = (time - before) as u32;
+        before = time;
+        for shift in [21, 14, 7] {
+            if gap >> shift != 0 {
+                out.push((gap >> shift) as u8 | 0x80);
+            }
+        }
+        out.push(gap as u8 & 0x7f);
+        let channel = channel as u8;
+        match kind {
+            0 => out.extend_from_slice(&[0x90 | channel, v1 as u8, v3 as u8]),
+            1 => out.extend_from_slice(&[0x80 | channel, v1 as u8, 0]),
+            2 => out.extend_from_slice(&[0xb0 | channel, v1 as u8, v2 as u8]),
+            3 => out.extend_from_slice(&[0xe0 | channel, v1 as u8 & 0x7f, (v1 >> 7) as u8]),
+            _ => out.extend_from_slice(&[0xc0 | channel, v1 as u8]),
+        }
+    }
+    out.extend_from_slice(&[0, 0xff, 0x2f, 0]);
+    let body = (out.len() - 8) as u32;
+    out[4..8].copy_from_slice(&body.to_be_bytes());
+}
+
+/// A chunk of a list that is lent with a buffer for its longest: both sides write into what stands there already.
+fn chunk(events: usize) {
+    let (list, store) = (voice(events), Other::first().store);
+    let (numbers, longest) = (list.concat(), 12 + 7 * events);
+    timed(
+        &format!("write_chunk, {events} events"),
+        if events > 1_000 { CALLS / 10 } else { CALLS },
+        &mut vec![],
+        &mut (vec![0; longest], 0),
+        |out| plain_chunk(std::hint::black_box(&list), out),
+        |(out, written)| {
+            let (long, room) = (numbers.len(), out.len());
+            let code = unsafe {
+                dollavir::dollavir_write_chunk(numbers.as_ptr(), long, events, store.as_ptr(), store.len(), out.as_mut_ptr(), room, written)
+            };
+            assert!(code == 0, "write_chunk: refused");
+        },
+        |plain, (out, written)| plain[..] == out[..*written],
     );
 }
