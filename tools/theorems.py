@@ -8,7 +8,8 @@ Both fail where a call has no theorem of a column, or where the theorem speaks o
     contract   the definitions that the `ensures` names
     refused    a field of a record of Refused or RefusedLent, whose statement names them; a call whose answer has no number is never refused
     once       a field of a record of Once, over the contract of this very function
-    sound      a field of a record of Sound or SoundLent, whose statement names them; a call that hands back a number alone leaves nothing
+    sound      a field of a record of Sound or SoundLent, whose statement names them; a call that hands back a number alone leaves nothing, and bytes that it
+               leaves are tested by no call
     series     a call over a track, a table, a budget or a list is one of the calls of a series (specs/Series)
 """
 import os, re, sys
@@ -182,9 +183,9 @@ def main():
                 faults.append(f'{call.title()}: {once} is not over the contract of {path}')
         sound = field_of(call, ('Sound', 'SoundLent'), whole[:2] if call.of != 'Track' else whole[1:2], named, True)
         if not sound:
-            if '&mut' in call.params or (answer and not parts <= PLAIN):
+            if re.search(r'&mut (?!\[u8\])', call.params) or (answer and not parts <= PLAIN):
                 faults.append(f'{call.title()}: no theorem says that what it leaves passes the tests again')
-            sound = f'leaves nothing, answers `{call.result}`'
+            sound = f'leaves {"an output of bytes" if "&mut [u8]" in call.params else "nothing"}, answers `{call.result}`'
         if not call.of and not call.lent and re.search(r'Track|Budget|&mut|&\[i64\]', call.params) and call.field() not in series:
             faults.append(f'{call.title()}: no call of a series')
         rows.append(f'| `{call.title()}` | {call.crate}/src/{call.file}: {", ".join(f"`{n}`" for n in call.names)} | {refused} | {once} | {sound} |')
