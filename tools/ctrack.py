@@ -222,7 +222,7 @@ class Export:
             if dict(self.params).get(n, '').startswith('&mut'):
                 c = re.sub(r' (Refuses [\d, ]+\.)', rf' Leaves it in `{n}`, {"with nothing set" if n == "option" else "0"} where it refuses. \1', c)
         if self.g.name == 'write_chunk':
-            c = c.replace('Answers the bytes of the chunk;', 'Leaves the bytes of the chunk in `bytes`, 0 where it refuses;')
+            c = c.replace('Answers how many bytes the chunk has;', 'Leaves in `bytes` how many bytes the chunk has, 0 where it refuses;')
         if self.g.name == 'split_note_off':
             c = c.replace('and answers how many they are', 'and leaves their number in `out_count`').replace('then all of `out` is left as it is', 'then all of `out` is left as it is, and `out_count` is `count`')
         return wrapped(c)

@@ -1,7 +1,8 @@
 -- The two passes over a list of events, told by what is left of it.
 --     Next, next-of                                           the event that is met behind i of them
 --     WeighedTo, weigh-begun, -passed, -failed, -ended        the pass that tests and counts
---     unstored, known, weighed-stored, weighed-all            what it answers
+--     tallyAt, well-passed                                    the same of a pass that met only events that are well
+--     unstored, known, weighed-stored, weighed-all            what they answer
 --     PutTo, put-begun, -writable, -room, -passed             the pass that writes
 --     put-tail, put-ended                                     and the end of track
 use mathlib.Core.Path.{_≡_, refl, subst, _∙_}

@@ -444,9 +444,9 @@ fn put_head(out: &mut [u8], body: usize) -> usize
 }
 
 // Writes the events as a track chunk of Standard MIDI Files 1.0 at the start of `out`, with full status on every event and
-// the end of track last. Answers the bytes of the chunk; those behind it are left. Refuses 1, 4; 10 a list that is not in
-// order, whose first time is below 0 or that has a gap above 268,435,455; 11 a kind that is not written, or a field
-// outside its width; 12 an output that is too short. Then the output is left as it is.
+// the end of track last. Answers how many bytes the chunk has; what stands in `out` behind them is left. Refuses 1, 4; 10 a
+// list that is not in order, whose first time is below 0 or that has a gap above 268,435,455; 11 a kind that is not
+// written, or a field outside its width; 12 an output that is too short. Then all of `out` is left as it is.
 pub fn write_chunk(events: &[i64], count: usize, store: &[u8], out: &mut [u8]) -> Chunk
     ensures { λ r. ⌜ (r ≡ chunkWritten (length (now (store .entry))) (now (events .entry)) count (length (now (out .entry))))
         × (now (out .exit) ≡ chunkLeft (length (now (store .entry))) (now (events .entry)) count (now (out .entry))) ⌝ }

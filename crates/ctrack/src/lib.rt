@@ -1004,10 +1004,10 @@ pub extern "C" fn dollavir_full_cut(
 
 // ---- a file's track chunk
 // Writes the events as a track chunk of Standard MIDI Files 1.0 at the start of `out`, with full status on every
-// event and the end of track last. Leaves the bytes of the chunk in `bytes`, 0 where it refuses; those behind it are
-// left. Refuses 1, 4; 10 a list that is not in order, whose first time is below 0 or that has a gap above
-// 268,435,455; 11 a kind that is not written, or a field outside its width; 12 an output that is too short. Then the
-// output is left as it is.
+// event and the end of track last. Leaves in `bytes` how many bytes the chunk has, 0 where it refuses; what stands in
+// `out` behind them is left. Refuses 1, 4; 10 a list that is not in order, whose first time is below 0 or that has a
+// gap above 268,435,455; 11 a kind that is not written, or a field outside its width; 12 an output that is too short.
+// Then all of `out` is left as it is.
 #[no_mangle]
 pub extern "C" fn dollavir_write_chunk(
     events: &[i64],
