@@ -222,11 +222,9 @@ fn move_on(p: Pen, e: Event) -> Pen
     requires { ⌜ (isEventTime (p .time) ≡ true) × ((isEventTime (e .time) ≡ true) × (p .at + 7 < 18446744073709551616)) ⌝ }
     ensures { λ r. ⌜ r ≡ record { at = p .at + length (writtenAfter (p .time) e); time = e .time } ⌝ }
 {
-    let size = event_size(p.time, e);
-    Pen {
-        at: p.at + size,
-        time: e.time,
-    }
+    let at = p.at + event_size(p.time, e);
+    let time = e.time;
+    Pen { at: at, time: time }
 }
 
 // The same answer as `weigh`, which is asked only where an event cannot be written.

@@ -8,8 +8,8 @@ use Rattle.chunks.proofs.move_on.Tie as tie
 event-size-requires : tie.Need-event-size-requires
 event-size-requires c κs = search needs
 
-add-t4 : tie.Need-add-t4
-add-t4 c = search needs
+add-at : tie.Need-add-at
+add-at c = search needs
 
 returns : tie.Need-returns
 returns c =
@@ -17,4 +17,4 @@ returns c =
     rw (c .before .before .event-size .ensures .0, toZ-ofZ (time-fits (s .args .e .time) (s .pre .1 .0)), toZ-ofZ (time-fits (s .args .p .time) (s .pre .0)))
 
 pub move-on-spec : {M : Type 1} → statement M
-move-on-spec = tie.close (tie.spec event-size-requires add-t4 returns)
+move-on-spec = tie.close (tie.spec event-size-requires add-at returns)
