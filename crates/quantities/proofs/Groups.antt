@@ -1,6 +1,6 @@
 -- A quantity by its number of bytes, and what is written of one is read back, whatever stands behind it.
-use mathlib.Core.Bool.{Bool, true, false, cond}
-use mathlib.Core.Path.{_≡_, refl, ap, _∙_}
+use mathlib.Core.Bool.{Bool, true, false, cond, true≢false}
+use mathlib.Core.Path.{_≡_, refl, sym, ap, _∙_}
 use mathlib.Core.List.{List, [], _∷_, _++_}
 use mathlib.Core.Logic.{⊎-elim}
 use Prim.Native.Nat.{ℕ, zero, suc, _+_, _*_, _-_, _/_, _%_, _^_, _≤_, _<_}
@@ -12,6 +12,7 @@ use lib.ListN.{length, drop, getD, drop-of-length-le}
 use lib.Seq.{drop-cons}
 use borrow.Author.Tests.{ltb-true, ltb-false, lt-ltb, le-ltb, le-leb, lt-leb}
 use Rattle.laws.proofs.Bools.{which}
+use Rattle.quantities.specs.declared.Quantity.{Quantity}
 use Rattle.quantities.specs.Quantities.{quantityBytes, quantityTop, followed, lowest1, lowest2, lowest3, lowest4, quantityOf, met, notMet, quantityFrom, quantityIn}
 
 -- ---- what is read is small
@@ -143,3 +144,41 @@ quantity-size q =
     let few : List ℕ → Type 0 = λ l. (0 < length l) × (length l ≤ quantityBytes) in
     either few (ltb q 128) _ _ (omega arith, omega arith)
     (either few (ltb q 16384) _ _ (omega arith, omega arith) (either few (ltb q 2097152) _ _ (omega arith, omega arith) (omega arith, omega arith)))
+
+-- ---- of a quantity that is read, the bytes that it takes are there, and are at least one
+quantity-there : (k value used : ℕ) (l : List ℕ) → quantityFrom k value used l .ok ≡ true
+    → (used < quantityFrom k value used l .used) × (quantityFrom k value used l .used ≤ used + length l)
+unfolding quantityFrom
+quantity-there zero value used l h = absurd (true≢false (sym h))
+quantity-there (suc k) value used [] h = absurd (true≢false (sym h))
+quantity-there (suc k) value used (b ∷ l) h = go (ltb b 128) h (quantity-there k (value * 128 + (b - 128)) (used + 1) l)
+  where
+    more : Quantity
+    more = quantityFrom k (value * 128 + (b - 128)) (used + 1) l
+
+    go : (t : Bool) → cond t (met (value * 128 + b) (used + 1)) more .ok ≡ true
+        → (more .ok ≡ true → (used + 1 < more .used) × (more .used ≤ used + 1 + length l))
+        → (used < cond t (met (value * 128 + b) (used + 1)) more .used) × (cond t (met (value * 128 + b) (used + 1)) more .used ≤ used + length (b ∷ l))
+    go true g ih = (omega arith, omega arith)
+    go false g ih = let m = ih g in (omega arith, omega arith)
+
+pub quantity-within : (l : List ℕ) → quantityIn l .ok ≡ true → (0 < quantityIn l .used) × (quantityIn l .used ≤ length l)
+quantity-within l h = let w = quantity-there quantityBytes 0 0 l h in (w .0, omega (arith, w .1))
+
+-- what stands behind a quantity that is read does not matter to it
+quantity-goes : (k value used : ℕ) (l m : List ℕ) → quantityFrom k value used l .ok ≡ true → quantityFrom k value used (l ++ m) ≡ quantityFrom k value used l
+unfolding quantityFrom
+quantity-goes zero value used l m h = absurd (true≢false (sym h))
+quantity-goes (suc k) value used [] m h = absurd (true≢false (sym h))
+quantity-goes (suc k) value used (b ∷ l) m h = go (ltb b 128) h (quantity-goes k (value * 128 + (b - 128)) (used + 1) l m)
+  where
+    more : List ℕ → Quantity
+    more l = quantityFrom k (value * 128 + (b - 128)) (used + 1) l
+
+    go : (t : Bool) → cond t (met (value * 128 + b) (used + 1)) (more l) .ok ≡ true → (more l .ok ≡ true → more (l ++ m) ≡ more l)
+        → cond t (met (value * 128 + b) (used + 1)) (more (l ++ m)) ≡ cond t (met (value * 128 + b) (used + 1)) (more l)
+    go true g ih = refl
+    go false g ih = ih g
+
+pub quantity-alone : (l m : List ℕ) → quantityIn l .ok ≡ true → quantityIn (l ++ m) ≡ quantityIn l
+quantity-alone l m h = quantity-goes quantityBytes 0 0 l m h

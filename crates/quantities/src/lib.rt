@@ -5,7 +5,7 @@ ghost use mathlib.Core.Bool.{cond};
 ghost use Prim.Native.Nat.{_+_, _≤_, _<_};
 ghost use lib.ListN.{length, drop};
 ghost use Rattle.text.specs.Laying.{laid};
-ghost use Rattle.quantities.specs.Quantities.{group, lowest1, lowest2, lowest3, lowest4, quantityOf, quantityIn};
+ghost use Rattle.quantities.specs.Quantities.{group, lowest1, lowest2, lowest3, lowest4, quantityTop, quantityOf, quantityIn};
 use text::put_byte;
 
 // The most bytes of a quantity.
@@ -114,6 +114,7 @@ fn wide(b: u8) -> u64
 pub fn quantity_at(s: &[u8], at: usize) -> Quantity
     requires { ⌜ at ≤ length (now s) ⌝ }
     ensures { λ r. ⌜ r ≡ quantityIn (drop at (now (s .entry))) ⌝ }
+    ensures { λ r. ⌜ r .value < quantityTop ⌝ }
 {
     let room = s.len() - at;
     let mut value: u64 = 0;

@@ -30,7 +30,7 @@ returns : tie.Need-returns Inv-loop μ-loop
 returns c =
     let l = c .before .before .loop in
     let s = c .before .before .before .before .args in
-    sym (cut-short (now (s .s)) (s .at + l .used) (l .value) (l .used) (quantityBytes - l .used) (search needs)) ∙ l .inv .2
+    (sym (cut-short (now (s .s)) (s .at + l .used) (l .value) (l .used) (quantityBytes - l .used) (search needs)) ∙ l .inv .2, omega arith)
 
 add-wide : tie.Need-add-wide Inv-loop μ-loop
 add-wide c = search needs
@@ -63,10 +63,13 @@ returns-2 c =
     let s = c .before .before .before .before .before .before .before .args in
     let w = c .before .wide .ensures .0 in
     let k : suc (3 - l .used) ≡ quantityBytes - l .used = omega arith in
-    ap (λ (x : ℕ). met (l .value * 128 + x) (l .used + 1)) w
-    ∙ sym (at-last (now (s .s)) (s .at + l .used) (l .value) (l .used) (3 - l .used) (search needs) (rw w at (c .if2 .taken)))
-    ∙ ap (λ (n : ℕ). quantityFrom n (l .value) (l .used) (drop (s .at + l .used) (now (s .s)))) k
-    ∙ l .inv .2
+    let v = small (l .used) (l .value) (search needs) (l .inv .1) in (
+      ap (λ (x : ℕ). met (l .value * 128 + x) (l .used + 1)) w
+          ∙ sym (at-last (now (s .s)) (s .at + l .used) (l .value) (l .used) (3 - l .used) (search needs) (rw w at (c .if2 .taken)))
+          ∙ ap (λ (n : ℕ). quantityFrom n (l .value) (l .used) (drop (s .at + l .used) (now (s .s)))) k
+          ∙ l .inv .2,
+      omega arith,
+    )
 
 mul-value : tie.Need-mul-value Inv-loop μ-loop
 mul-value c =
@@ -105,7 +108,7 @@ returns-3 c =
     let l = c .before .loop in
     let s = c .before .before .before .args in
     let n : quantityBytes - l .used ≡ 0 = omega arith in
-    sym (used-up (now (s .s)) (s .at) (l .value) (l .used) (drop (s .at + l .used) (now (s .s)))) ∙ (rw n at (l .inv .2))
+    (sym (used-up (now (s .s)) (s .at) (l .value) (l .used) (drop (s .at + l .used) (now (s .s)))) ∙ (rw n at (l .inv .2)), omega arith)
 
 pub quantity-at-spec : {M : Type 1} → statement M
 quantity-at-spec =
