@@ -1,0 +1,13 @@
+pub mod Places
+pub mod Fronts
+pub mod Rests
+pub mod Kept
+pub mod Passes
+pub mod Refusing
+pub mod Sound
+pub mod Back
+pub mod Calls
+pub mod Running
+pub mod Ending
+pub mod Cases
+pub mod Few
