@@ -12,6 +12,9 @@
  *   10 the list is not sorted, its first time is below 0, or a gap (the first from time 0) is above 268,435,455
  *   11 a kind that is not written, or a field outside its MIDI width, which is 0 to 16,383 for a bend
  *   12 the output is too short
+ *   13 not a track chunk, or its length is not that of the bytes behind it
+ *   14 an event that is cut short or faulty
+ *   15 no end of track behind the last event, or bytes behind it
  * A pointer must be valid, aligned and not null, also where its length is 0, and what two parameters point at
  * must not overlap. A slice is a pointer and the number of its elements. The event list has eight numbers a
  * record: kind, time, channel, v1, v2, v3, offset, length. What a function does not read it does not test:
@@ -557,6 +560,15 @@ uint32_t dollavir_full_cut(int64_t *events, size_t events_length, size_t *count,
    that is too short. Then all of `out` is left as it is. */
 uint32_t dollavir_write_chunk(const int64_t *events, size_t events_length, size_t count, const uint8_t *store,
     size_t store_length, uint8_t *out, size_t out_length, size_t *bytes);
+
+/* Reads a track chunk of Standard MIDI Files 1.0 into the list, which then holds the chunk's events in order and
+   nothing else: NoteOn, NoteOff, controllers, programs and bends, with running status; Meta, system exclusive and
+   aftertouch are stepped over, and their times count. A note's end is a NoteOff of velocity 0. Leaves in `count`
+   how many events the list has. Refuses 1; 13 bytes that are no track chunk, or not as many as it says; 14 an
+   event that is cut short or faulty; 15 no end of track, or bytes behind it; 7; 4 an event later than 2^42. Then
+   the list and the count are left as they are. */
+uint32_t dollavir_read_chunk(const uint8_t *chunk, size_t chunk_length, int64_t *events, size_t events_length,
+    size_t *count);
 
 /* ---- the track's parameters and layers ---- */
 

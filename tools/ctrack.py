@@ -37,7 +37,7 @@ A controller's value
 The event list
     eventlist::remove_pitch_bend_in_range sorting::events_sort notes::split_note_off notes::normalize cutting::play_from cutting::full_cut
 A file's track chunk
-    chunks::write_chunk
+    chunks::write_chunk reader::read_chunk
 The track's parameters and layers
     playing::calc_v_on_time playing::calc_t_on_time playing::calc_qlen_on_time playing::calc_o_on_time playing::calc_l_on_time
     playing::calc_v_on_note playing::calc_t_on_note playing::calc_qlen_on_note playing::calc_o_on_note playing::calc_l_on_note
@@ -101,7 +101,7 @@ HOME = {**{k: v[0] for k, v in ANSWERS.items()}, 'Answer': 'lending', 'Track': '
         'NoteParam': 'params', 'Layers': 'layers', 'Event': 'events', 'Made': 'events', 'OnCycleTime': 'reserved', 'BudgetAnswer': 'budget', 'SineAnswer': 'tables',
         'CycleTimeAnswer': 'reserved'}
 LENT = ('track', 'param', 'layers', 'event', 'cycle', 'budget', 'count')  # by value to the call, by reference here
-ALONE = ('eventlist', 'sorting', 'notes', 'cutting', 'chunks')  # calls that are lent slices and numbers alone: the prover covers them, and no walk is written
+ALONE = ('eventlist', 'sorting', 'notes', 'cutting', 'chunks', 'reader')  # calls that are lent slices and numbers alone: the prover covers them, and no walk is written
 
 
 def left_of(answer):
@@ -223,6 +223,8 @@ class Export:
                 c = re.sub(r' (Refuses [\d, ]+\.)', rf' Leaves it in `{n}`, {"with nothing set" if n == "option" else "0"} where it refuses. \1', c)
         if self.g.name == 'write_chunk':
             c = c.replace('Answers how many bytes the chunk has;', 'Leaves in `bytes` how many bytes the chunk has, 0 where it refuses;')
+        if self.g.name == 'read_chunk':
+            c = c.replace('Answers how many events the list has.', 'Leaves in `count` how many events the list has.').replace('Then the list is left as it is, and the count handed back.', 'Then the list and the count are left as they are.')
         if self.g.name == 'split_note_off':
             c = c.replace('and answers how many they are', 'and leaves their number in `out_count`').replace('then all of `out` is left as it is', 'then all of `out` is left as it is, and `out_count` is `count`')
         return wrapped(c)

@@ -100,7 +100,9 @@ def numbers(lib):
             f'3 an argument list has more than {lib.limit} numbers', '4 a number is against its range or rule, or a resulting event time is more than 2^42 from 0',
             '5 a layer above 15', '6 no place in a reservation table', '7 the list that is left holds more events than the buffer',
             '10 the list is not sorted, its first time is below 0, or a gap (the first from time 0) is above 268,435,455',
-            '11 a kind that is not written, or a field outside its MIDI width, which is 0 to 16,383 for a bend', '12 the output is too short']
+            '11 a kind that is not written, or a field outside its MIDI width, which is 0 to 16,383 for a bend', '12 the output is too short',
+            '13 not a track chunk, or its length is not that of the bytes behind it',
+            '14 an event that is cut short or faulty', '15 no end of track behind the last event, or bytes behind it']
 
 
 ABOUT = ['What a function answers as a 32-bit number is one of this table; where it is not 0, all that is lent is as it was:']

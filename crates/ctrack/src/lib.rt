@@ -25,6 +25,7 @@ ghost use Rattle.sorting.specs.Sorting.{sortRefusal, sortLeft};
 ghost use Rattle.notes.specs.Notes.{splitTaken, splitLeft};
 ghost use Rattle.cutting.specs.Cuts.{cutTaken, cutLeft, plain, whole};
 ghost use Rattle.chunks.specs.Writing.{chunkWritten, chunkLeft};
+ghost use Rattle.reader.specs.Reading.{readTaken, readLeft};
 ghost use Rattle.playing.specs.Which.{velocity, timing, gate, octave, span, paramOf};
 ghost use Rattle.playing.specs.Calls.{valueOnTime, valueOnNote, onLayers, summedUp, onParam};
 ghost use Rattle.layers.specs.Calls.{setVSub, setVSubRandom, setVSubOnTime, setVSubOnCycle, setVSubOnNote, applyVSub};
@@ -1022,6 +1023,23 @@ pub extern "C" fn dollavir_write_chunk(
 {
     let r = chunks::write_chunk(events, count, store, out);
     *bytes = r.bytes;
+    r.code
+}
+
+// Reads a track chunk of Standard MIDI Files 1.0 into the list, which then holds the chunk's events in order and
+// nothing else: NoteOn, NoteOff, controllers, programs and bends, with running status; Meta, system exclusive and
+// aftertouch are stepped over, and their times count. A note's end is a NoteOff of velocity 0. Leaves in `count` how
+// many events the list has. Refuses 1; 13 bytes that are no track chunk, or not as many as it says; 14 an event that
+// is cut short or faulty; 15 no end of track, or bytes behind it; 7; 4 an event later than 2^42. Then the list and
+// the count are left as they are.
+#[no_mangle]
+pub extern "C" fn dollavir_read_chunk(chunk: &[u8], events: &mut [i64], count: &mut usize) -> u32
+    ensures { λ r. ⌜ ListLeft (readTaken (now (chunk .entry)) (now (events .entry)) (now (count .entry)))
+        (readLeft (now (chunk .entry)) (now (events .entry)) (now (count .entry)))
+        r (now (count .exit)) (now (events .exit)) ⌝ }
+{
+    let r = reader::read_chunk(chunk, events, *count);
+    *count = r.count;
     r.code
 }
 

@@ -20,6 +20,7 @@ use Rattle.eventlist.specs.Bends.{bendsTaken, bendsLeft}
 use Rattle.sorting.specs.Sorting.{sortRefusal, sortLeft}
 use Rattle.chunks.specs.declared.Chunk.{Chunk}
 use Rattle.chunks.specs.Writing.{chunkRefusal, refusedChunk, chunkWritten, chunkLeft}
+use Rattle.reader.specs.Reading.{readTaken, readLeft}
 use Rattle.notes.specs.Notes.{splitTaken, splitLeft}
 use Rattle.cutting.specs.declared.CcValue.{CcValue}
 use Rattle.cutting.specs.Cuts.{plain, whole, cutTaken, cutLeft}
@@ -97,6 +98,7 @@ pub record OfList (store : ℕ) (l : List ℤ) (count : ℕ) : Type 0 where
   pub play-from : (cut : ℤ) → TakenKept count l (cutTaken store l count (plain cut)) (cutLeft store l count (plain cut))
   pub full-cut : (cut : ℤ) → TakenKept count l (cutTaken store l count (whole cut)) (cutLeft store l count (whole cut))
   pub current-cc-value : (a : Track) (number : ℤ) → NoValue (ccOfTrack store a number l count)
+  pub read-chunk : (c : List ℕ) → TakenKept count l (readTaken c l count) (readLeft c l count)
   pub write-chunk : (out : List ℕ) → ChunkKept out (chunkWritten store l count (length out)) (chunkLeft store l count out)
 
 pub of-list : (store : ℕ) (l : List ℤ) (count : ℕ) → OfList store l count
@@ -110,6 +112,7 @@ of-list store l count =
       play-from = λ cut. taken-kept _ _ count _ l;
       full-cut = λ cut. taken-kept _ _ count _ l;
       current-cc-value = λ a number h. rw (ne-eqb _ 0 h);
+      read-chunk = λ c. taken-kept _ _ count _ l;
       write-chunk = λ out h. let e = ne-eqb (chunkRefusal store l count (length out)) 0 h in record { answer = rw e; list = rw e };
     }
 

@@ -17,6 +17,7 @@ use Rattle.eventlist.specs.Sound.{isList, okEvents}
 use Rattle.eventlist.specs.Bends.{bendsTaken, bendsLeft}
 use Rattle.sorting.specs.Sorting.{sortLeft}
 use Rattle.notes.specs.Notes.{splitTaken, splitLeft}
+use Rattle.reader.specs.Reading.{readTaken, readLeft}
 use Rattle.cutting.specs.Cuts.{plain, whole, cutTaken, cutLeft}
 use Rattle.params.specs.Calls as params
 use Rattle.layers.specs.Calls as layers
@@ -119,6 +120,7 @@ pub data Call : Type 0 where
   split-note-off : List ℤ → Call
   current-cc-value : ℤ → Call
   write-chunk : List ℕ → Call
+  read-chunk : List ℕ → Call
 
 -- ---- what it leaves
 module _ (h : Held) where
@@ -209,6 +211,7 @@ after (split-note-off out) h =
     cond (eqb (r .code) 0) (withList h (splitLeft (h .store) (h .list) (h .count) out 0) (r .count)) h
 after (current-cc-value number) h = h
 after (write-chunk out) h = h
+after (read-chunk c) h = withList h (readLeft c (h .list) (h .count)) (readTaken c (h .list) (h .count) .count)
 
 unfoldable pub afterAll : List Call → Held → Held
 afterAll [] h = h

@@ -98,6 +98,7 @@ pub use eventlist::Taken;
 pub use eventlist::remove_pitch_bend_in_range;
 pub use notes::normalize;
 pub use notes::split_note_off;
+pub use reader::read_chunk;
 pub use sorting::events_sort;
 
 // ---- a number in a range
