@@ -1,5 +1,7 @@
 // Family 3: the list, lent as the desk says. What the Rust has no call for (301 to 303) tests here what a call of the
 // port tests. Call 305 is not here.
+use crate::input::take_chunk;
+use crate::output::counted;
 use crate::output::put_chunk;
 use crate::record::event_of;
 use crate::record::numbers_of;
@@ -33,6 +35,7 @@ use numbers::is_target;
 use numbers::is_time;
 use script::answer::Answer;
 use script::answer::done;
+use script::answer::one;
 use script::answer::refusal;
 use script::answer::unknown;
 use script::args::arg;
@@ -149,6 +152,14 @@ fn split(own: usize, count: usize, events: &[i64], second: &mut [i64], store: &[
     }
 }
 
+// 312: the list has the chunk's events, and the call answers how many.
+fn read_in(own: usize, t: Taken) -> Listed {
+    if t.code != 0 {
+        return of_list(refusal(t.code), own);
+    }
+    of_list(one(counted(t.count)), t.count)
+}
+
 // A call on the list as it is lent, n records handed in.
 fn on_list(
     op: i64,
@@ -171,6 +182,7 @@ fn on_list(
         308 => of_list(refusal(events_sort(events, n, store)), own),
         309 => left(own, play_from(events, n, a, store)),
         310 => left(own, full_cut(events, n, a, store)),
+        312 => read_in(own, take_chunk(args, events, n)),
         _ => of_list(unknown(), own),
     }
 }

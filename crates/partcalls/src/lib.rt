@@ -5,5 +5,6 @@ pub mod family1;
 pub mod family2;
 pub mod family3;
 pub mod family4;
+mod input;
 mod output;
 mod record;

@@ -35,7 +35,7 @@ fn fill_output(out: &mut [u8]) {
 }
 
 // A count as a number.
-fn counted(n: usize) -> i64 {
+pub fn counted(n: usize) -> i64 {
     if n > MOST_BYTES {
         return 0;
     }
