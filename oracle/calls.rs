@@ -40,7 +40,7 @@ pub fn make(desk: &mut Desk, quarter: &Quarter, step: &Step) -> Reply {
     match step.op / 100 {
         1 => constructor(step.op, a),
         2 => leaf(desk, step.op, a),
-        3 => listed(desk, step.op, a),
+        3 => listed(desk, step.op, a, list),
         4 => parameter(desk, step.op, a, list),
         5 => of_track(desk, step.op, a, list),
         6 => written(desk, quarter, step.op, a, list),
@@ -57,6 +57,11 @@ fn output(step: &Step) -> Vec<u8> {
     } else {
         vec![]
     }
+}
+
+/// A list of a script as bytes.
+pub fn bytes(list: &[i64]) -> Vec<u8> {
+    list.iter().map(|&byte| u8::try_from(byte).expect("a byte")).collect()
 }
 
 fn constructor(op: i64, a: &[i64]) -> Reply {
@@ -135,7 +140,7 @@ fn on_list(desk: &mut Desk, call: impl FnOnce(&mut Track)) -> Reply {
     refused(code)
 }
 
-fn listed(desk: &mut Desk, op: i64, a: &[i64]) -> Reply {
+fn listed(desk: &mut Desk, op: i64, a: &[i64], list: &[i64]) -> Reply {
     let x = isizes(a);
     match op {
         301 if desk.list.len() >= desk.room => refused(7),
@@ -176,11 +181,18 @@ fn listed(desk: &mut Desk, op: i64, a: &[i64]) -> Reply {
         308 => on_list(desk, |track| track.events_sort()),
         309 => on_list(desk, |track| track.play_from(x[0])),
         310 => on_list(desk, |track| track.events = full_cut(&track.events, x[0])),
-        _ => {
+        311 => {
             let mut bytes = smf::output(a[0]);
             let made = smf::write_chunk(&desk.list, &mut bytes);
             Reply { bytes, ..made.map_or_else(refused, |length| answer(&[length as i64])) }
         }
+        _ => match smf::read_chunk(&bytes(list), desk.room) {
+            Ok(events) => {
+                desk.list = events;
+                answer(&[desk.list.len() as i64])
+            }
+            Err(code) => refused(code),
+        },
     }
 }
 

@@ -1,4 +1,4 @@
-// Document 01's cases, "Both sides of a line", with request c)'s limit for lists, and request a)'s of the full cut, asked of the original, and request b)'s of the track chunk, asked of smf.rs: each is a short script in text, and lines that its last call must print in full mode. And the sines,
+// Document 01's cases, "Both sides of a line", with request c)'s limit for lists, and request a)'s of the full cut, asked of the original, and requests b)'s and e)'s of the track chunk, asked of smf.rs: each is a short script in text, and lines that its last call must print in full mode. And the sines,
 // whose values document 01 takes from a table of its own: how far the original's stand from it.
 
 use crate::calls;
@@ -108,6 +108,22 @@ fn cases() -> Vec<Case> {
         ),
         case("02, b): a bend of 16,384 in front of a time that falls, and no output: 10", "904 3 1 0 16384 0 0 0 0; 904 3 0 0 0 0 0 0 0; 311 0", &["311 10", "K 0"]),
         case("02, b): a bend of 16,384, and no output: 11", "904 3 1 0 16384 0 0 0 0; 311 0", &["311 11", "K 0"]),
+        case(
+            "02, e): 00 90 3C 64 60 3C 00 00 FF 2F 00: a note, and its end by velocity 0 under running status",
+            "312 19 77 84 114 107 0 0 0 11 0 144 60 100 96 60 0 0 255 47 0",
+            &["312 0 2", "E 2 0 0 0 60 0 100 0 1 96 0 60 0 0 0"],
+        ),
+        case(
+            "02, e): text, system exclusive and both kinds of aftertouch are stepped over, and their gaps of 1, 2, 128 and 5 count: a bend E3 00 40 at 136 + 4",
+            "312 37 77 84 114 107 0 0 0 29 1 255 1 2 65 66 2 240 1 247 129 0 163 60 64 5 211 9 4 227 0 64 96 255 47 128 128 128 0",
+            &["312 0 1", "E 1 3 140 3 8192 0 0 0"],
+        ),
+        case("02, e): an empty chunk takes the place of what was there", "904 0 0 0 60 48 100 0 0; 904 2 5 0 7 1 0 0 0; 312 12 77 84 114 107 0 0 0 4 0 255 47 0", &["312 0 0", "E 0"]),
+        case("02, e): one byte behind the chunk gives 13, and the list is as it was", "904 0 0 0 60 48 100 0 0; 312 13 77 84 114 107 0 0 0 4 0 255 47 0 0", &["312 13", "E 1 0 0 0 60 48 100 0"]),
+        case("02, e): one that the length counts gives 15", "312 13 77 84 114 107 0 0 0 5 0 255 47 0 0", &["312 15", "E 0"]),
+        case("02, e): no status runs behind a text: 14", "312 23 77 84 114 107 0 0 0 15 0 144 60 100 0 255 1 0 0 60 0 0 255 47 0", &["312 14", "E 0"]),
+        case("02, e): two events, room for one, and no end of track: 15", "902 96 0 1; 312 15 77 84 114 107 0 0 0 7 0 144 60 100 0 60 0", &["312 15", "E 0"]),
+        case("02, e): with an end of track: 7", "902 96 0 1; 312 19 77 84 114 107 0 0 0 11 0 144 60 100 0 60 0 0 255 47 0", &["312 7", "E 0"]),
         case("192 numbers accepted", &format!("607 7 {}", ones(LIST_LIMIT)), &["607 0"]),
         case("193 give 3", &format!("607 7 {}", ones(LIST_LIMIT + 1)), &["607 3"]),
         case("96 numbers accepted as before", &format!("607 7 {}", ones(FORMER_LIMIT)), &["607 0"]),

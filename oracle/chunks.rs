@@ -129,7 +129,7 @@ impl Maker {
     }
 
     /// A sorted list of what is written, but for these faults in the order of their places.
-    fn list_with(&mut self, faults: &[i64]) -> Vec<Record> {
+    pub fn list_with(&mut self, faults: &[i64]) -> Vec<Record> {
         let some = self.dice.pick(0, MOST);
         let count = self.dice.of(&[some, some, some, some, 1, 2, MOST]).max(faults.len() as i64);
         let mut places: Vec<usize> = vec![];

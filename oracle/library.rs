@@ -1,7 +1,7 @@
 // One call of a script, made on the linked port through its C interface. Nothing is tested here: the library decides every refusal. The calls of family 9, and those
 // that it does not export, are not here.
 
-use crate::calls::{Reply, OWN_SETTERS};
+use crate::calls::{self, Reply, OWN_SETTERS};
 use crate::desk::Record;
 use crate::dollavir::*;
 use crate::make::is_inner;
@@ -27,12 +27,13 @@ pub fn exports(step: &Step) -> bool {
 }
 
 pub fn make(desk: &mut Other, step: &Step) -> Reply {
-    let (a, list) = step.parts();
-    let list: Vec<i32> = list.iter().map(|&x| x as i32).collect();
+    let (a, numbers) = step.parts();
+    let list: Vec<i32> = numbers.iter().map(|&x| x as i32).collect();
     unsafe {
         match step.op / 100 {
             1 => constructor(desk, step.op, a),
             2 => leaf(desk, step.op, a),
+            3 if step.op == 312 => read(desk, &calls::bytes(numbers)),
             3 => listed(desk, step.op, a),
             4 => parameter(desk, step.op, a, &list),
             5 => of_track(&mut desk.track, step.op, a, &list),
@@ -139,6 +140,12 @@ unsafe fn chunk(desk: &mut Other, room: i64) -> Reply {
     assert!(out[length..] == before[length..], "bytes behind the output are not as they were");
     out.truncate(length);
     Reply { bytes: out, ..reply(made.code as u32, &[written as i64]) }
+}
+
+unsafe fn read(desk: &mut Other, chunk: &[u8]) -> Reply {
+    let made = lent(desk, |it| dollavir_read_chunk(chunk.as_ptr(), chunk.len(), it.events, it.long, it.count));
+    let count = if made.code == 0 { desk.count } else { 0 };
+    reply(made.code as u32, &[count as i64])
 }
 
 unsafe fn parameter(desk: &mut Other, op: i64, a: &[i64], list: &[i32]) -> Reply {

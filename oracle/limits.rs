@@ -1,9 +1,10 @@
-// Every call of some families at its limits: lent what is spoilt, handed each argument past its range, as it should be, and with no room; full lists, read at their end; tables of sixteen; and track chunks, each kind and each gap. Random scripts meet all of this too,
+// Every call of some families at its limits: lent what is spoilt, handed each argument past its range, as it should be, and with no room; full lists, read at their end; tables of sixteen; track chunks, each kind and each gap; and chunks that are read, each sentence of their rule. Random scripts meet all of this too,
 // but some of it seldom: the stored samples begin with these calls.
 
 use crate::chunks::GAPS;
 use crate::desk::Record;
 use crate::make::{is_inner, Maker};
+use crate::reads::{arguments, framed, SHORT};
 use crate::rules::{LIST_LIMIT, PLACES};
 use crate::script::Step;
 use crate::smf;
@@ -69,6 +70,40 @@ const WRITTEN: [Record; 5] = [
 /// An event of each kind that is not.
 const UNWRITTEN: [Record; 4] = [[4, 0, 0, 12, 0, 0, 0, 0], [6, 0, 0, 81, 0, 0, 10, 3], [7, 0, 0, 0, 0, 0, 0, 0], [8, 0, 0, 0, 0, 0, 256, 0]];
 
+/// The end of track, without a gap before it.
+const END: [u8; 4] = [0, 0xff, 0x2f, 0];
+
+/// Bodies of chunks without their end of track: what is read of each, what is not.
+const BODIES: &[&[u8]] = &[
+    // Nothing; a note, its end by velocity 0 under running status, its end under a status of its own.
+    &[],
+    &[0, 0x90, 60, 100, 96, 60, 0, 0, 0x80, 60, 64],
+    // The longest gap, a gap and a length in four bytes, and in five.
+    &[0xff, 0xff, 0xff, 0x7f, 0xb0, 7, 100],
+    &[0x80, 0x80, 0x80, 1, 0xff, 1, 0x80, 0x80, 0x80, 1, 65],
+    &[0x80, 0x80, 0x80, 0x80, 1, 0xb0, 7, 100],
+    &[0, 0xff, 1, 0x80, 0x80, 0x80, 0x80, 0],
+    // Running status: none yet; of aftertouch, of one byte and of two; none behind Meta, system exclusive and its rest.
+    &[0, 60, 100],
+    &[1, 0xd0, 64, 1, 65, 1, 0x90, 60, 100],
+    &[1, 0xa0, 60, 64, 1, 60, 65, 1, 0x90, 60, 100],
+    &[0, 0x90, 60, 100, 0, 0xff, 1, 1, 65, 0, 60, 0],
+    &[0, 0x90, 60, 100, 0, 0xf0, 1, 0xf7, 0, 60, 0],
+    &[0, 0x90, 60, 100, 0, 0xf7, 1, 0xf7, 0, 60, 0],
+    // Times of what is stepped over; an end of track inside a text; system exclusive in three parts.
+    &[5, 0xff, 3, 0, 6, 0xf0, 0, 7, 0xf7, 0, 8, 0xc0, 40],
+    &[0, 0xff, 1, 4, 0, 0xff, 0x2f, 0, 1, 0xe0, 127, 127],
+    &[0, 0xf0, 2, 67, 18, 10, 0xf7, 1, 0, 10, 0xf7, 2, 1, 0xf7, 1, 0xe0, 1, 0],
+    // A text that ends the input, and one longer than that; types 127 and 128; ends of track with a length, twice, and in a longer form.
+    &[0, 0xff, 1, 4],
+    &[0, 0xff, 1, 5],
+    &[0, 0xff, 127, 0],
+    &[0, 0xff, 128, 0],
+    &[0, 0xff, 0x2f, 1, 0],
+    &[0, 0xff, 0x2f, 0],
+    &[0, 0xff, 0x2f, 0x80, 0],
+];
+
 /// The desk is a script's first one again after it.
 pub fn script(seed: u64, families: &[i64]) -> Vec<Step> {
     let mut maker = Maker::new(seed, families);
@@ -92,6 +127,7 @@ pub fn script(seed: u64, families: &[i64]) -> Vec<Step> {
     }
     if families.contains(&3) {
         maker.every_chunk();
+        maker.every_read();
     }
     maker.emit(902, &[96, 0, 64]);
     maker.steps
@@ -136,6 +172,9 @@ impl Maker {
     /// Each argument past its range, one after the other.
     fn past_ranges(&mut self, call: &Call) {
         for (at, arg) in call.args.iter().enumerate() {
+            if *arg == Arg::Chunk {
+                continue;
+            }
             if arg.is_list() {
                 self.list_limits(call, at);
             } else {
@@ -209,6 +248,51 @@ impl Maker {
         for list in [[early, loud, end], [loud, early, end], [early, end, nowhere], [loud, end, nowhere], [nowhere, loud, early]] {
             self.chunk_of(&list);
         }
+    }
+
+    /// The bodies above, each message with its data bytes at both ends and past them, each status that is of no channel, heads that are none, every cut of a short chunk, and lists with too little room and with what may not be stored.
+    fn every_read(&mut self) {
+        self.emit(902, &[96, 0, 3]);
+        for event in &WRITTEN[..2] {
+            self.emit(904, event);
+        }
+        for body in BODIES {
+            self.read_body(body);
+        }
+        for says in 8..=14 {
+            let status = says * 16 + says;
+            for [a, b] in [[0, 0], [127, 127], [128, 0], [0, 128]] {
+                self.read_body(&[1, status, a, b]);
+            }
+            self.read_body(&[1, status, 5]);
+        }
+        for status in 0xf0..=0xff {
+            self.read_body(&[1, status, 1, 0]);
+        }
+        let empty = framed(&END);
+        for at in 0..8 {
+            let mut wrong = empty.clone();
+            wrong[at] += 1;
+            self.emit(312, &arguments(&wrong));
+            self.emit(312, &arguments(&empty[..at]));
+        }
+        self.emit(312, &arguments(&[&empty[..], &[0]].concat()));
+        for at in 0..=SHORT.len() {
+            self.emit(312, &arguments(&framed(&SHORT[..at])));
+        }
+        self.emit(906, &[1, 2, 16]);
+        self.emit(312, &arguments(&framed(&SHORT)));
+        for room in [2, 0] {
+            self.emit(902, &[96, 0, room]);
+            for body in [&SHORT[..], &SHORT[..20], &END] {
+                self.emit(312, &arguments(&framed(body)));
+            }
+        }
+    }
+
+    /// A body with an end of track behind it.
+    fn read_body(&mut self, body: &[u8]) {
+        self.emit(312, &arguments(&framed(&[body, &END].concat())));
     }
 
     /// A list with an output as long as its chunk, a byte longer and a byte shorter; where it has none, with no output, one shorter than any chunk, and one that would do.

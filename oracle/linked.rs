@@ -5,6 +5,7 @@
 //     linked SEED edges                       one script of cycle calls at their edge
 //     linked SEED merged COUNT                one script of full cuts of lists that are not sorted
 //     linked SEED chunks COUNT                one script of track chunks at the edges of what one holds
+//     linked SEED reads COUNT                 so many chunks read, good and damaged, and lists written and read back
 //     linked SEED passage COUNT               so many lists and their full cuts, played: of the port alone
 //     linked bench                            times of some calls on both sides
 
@@ -21,6 +22,7 @@ mod cut;
 mod desk;
 mod dice;
 mod edges;
+mod fuzz;
 mod library;
 mod make;
 mod merged;
@@ -29,6 +31,7 @@ mod passage;
 mod poke;
 mod private;
 mod quarter;
+mod reads;
 mod rules;
 mod script;
 mod show;
@@ -283,11 +286,12 @@ fn main() {
         [seed, "edges"] => compare_all(number(seed), 1, edges::script),
         [seed, "merged", count] => compare_all(number(seed), 1, |seed| merged::script(seed, number(count) as usize)),
         [seed, "chunks", count] => compare_all(number(seed), 1, |seed| chunks::script(seed, number(count) as usize)),
+        [seed, "reads", count] => std::process::exit(i32::from(!fuzz::run(number(seed), number(count) as usize))),
         [seed, "passage", count] => std::process::exit(i32::from(!passage::run(number(seed), number(count) as usize))),
         [seed, count, families] => compare_all(number(seed), 1, random(count, families)),
         [seed, count, families, seeds] => compare_all(number(seed), number(seeds), random(count, families)),
         _ => {
-            eprintln!("linked SEED COUNT FAMILIES [SEEDS] | SEED edges | SEED merged COUNT | SEED chunks COUNT | SEED passage COUNT | bench");
+            eprintln!("linked SEED COUNT FAMILIES [SEEDS] | SEED edges | SEED merged COUNT | SEED chunks COUNT | SEED reads COUNT | SEED passage COUNT | bench");
             std::process::exit(2);
         }
     }

@@ -6,6 +6,7 @@
 //     oracle edges SEED > script    cycle calls at the edge of what one may write; `oracle edges SEED names` prints each case's first call and its name
 //     oracle merged SEED COUNT > script           full cuts of lists that are not sorted; `oracle merged SEED COUNT figures` prints what they are like
 //     oracle chunks SEED COUNT > script           track chunks at the edges of what one holds; `oracle chunks SEED COUNT figures` prints what they are like
+//     oracle reads SEED COUNT > script            track chunks that are read, good and damaged; `oracle reads SEED COUNT figures` prints what they are like
 //     oracle text < script          one call a line; `oracle binary < text` goes back
 //     oracle cases                  document 01's cases that need only the original
 //     oracle sines SEED COUNT       document 01's sine values beside the original's
@@ -31,6 +32,7 @@ mod merged;
 mod poke;
 mod private;
 mod quarter;
+mod reads;
 mod rules;
 mod script;
 mod show;
@@ -65,6 +67,8 @@ fn main() -> Result<()> {
         ["merged", seed, count, "figures"] => merged::print(number(seed), number(count) as usize, &mut out)?,
         ["chunks", seed, count] => script::write(&chunks::script(number(seed), number(count) as usize), &mut out)?,
         ["chunks", seed, count, "figures"] => chunks::print(number(seed), number(count) as usize, &mut out)?,
+        ["reads", seed, count] => script::write(&reads::script(number(seed), number(count) as usize), &mut out)?,
+        ["reads", seed, count, "figures"] => reads::print(number(seed), number(count) as usize, &mut out)?,
         ["text"] => {
             for step in script::read(&mut stdin())? {
                 writeln!(out, "{}", step.text())?;
@@ -112,7 +116,7 @@ fn main() -> Result<()> {
             }
         }
         _ => {
-            eprintln!("oracle run | make SEED COUNT FAMILIES | limits SEED FAMILIES | edges SEED [names] | merged SEED COUNT [figures] | chunks SEED COUNT [figures] | text | binary | cases | sines SEED COUNT | tape | tapes SEED COUNT | tapes lists | plays | each PROGRAM.. | pick N | thin N");
+            eprintln!("oracle run | make SEED COUNT FAMILIES | limits SEED FAMILIES | edges SEED [names] | merged SEED COUNT [figures] | chunks SEED COUNT [figures] | reads SEED COUNT [figures] | text | binary | cases | sines SEED COUNT | tape | tapes SEED COUNT | tapes lists | plays | each PROGRAM.. | pick N | thin N");
             std::process::exit(2);
         }
     }

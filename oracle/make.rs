@@ -67,7 +67,8 @@ fn weight(op: i64) -> usize {
     match op {
         407 | 408 | 502 | 504 | 506 | 508 | 510 | 516 | 608 => 3,
         607 | 707..=709 => 6,
-        801 => 1,
+        // A chunk that is read takes the place of the list.
+        312 | 801 => 1,
         _ => 2,
     }
 }
@@ -255,6 +256,7 @@ impl Maker {
             302 if self.desk.list.is_empty() => None,
             302 => Some(vec![dice.pick(0, self.desk.list.len() as i64 - 1)]),
             311 => Some(vec![self.room()]),
+            312 => Some(self.read_arguments()),
             _ => Some(self.by_kind(call, spoilt)),
         }
     }

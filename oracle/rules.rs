@@ -1,5 +1,5 @@
 // Document 01's refusals, asked before the original is called: "Numbers a caller may hand in" and the table of "Numbers that come back", in the table's
-// order. What can only be known by making the call (4 for a resulting event time, 7) is asked afterwards, in calls.rs, and what a track chunk refuses (10 to 12) in smf.rs.
+// order. What can only be known by making the call (4 for a resulting event time, 7) is asked afterwards, in calls.rs, and what a track chunk refuses (10 to 15) in smf.rs.
 
 use crate::desk::*;
 use crate::original::*;
@@ -40,7 +40,7 @@ pub fn refusal(desk: &Desk, call: &Call, step: &Step) -> i64 {
     if each().any(|(arg, x)| arg == Arg::Target && !is_target(x) || arg == Arg::Controller && !is_controller(x)) {
         return 2;
     }
-    if list.len() > LIST_LIMIT {
+    if list.len() > LIST_LIMIT && !call.args.contains(&Arg::Chunk) {
         return 3;
     }
     if !arguments_ok(call, args, list) || !lent_ok(desk, call, args) {

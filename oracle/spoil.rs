@@ -55,7 +55,10 @@ impl Maker {
         let (field, bad) = self.dice.record_fault(&record);
         self.emit(906, &[place, field as i64, bad]);
         self.meet("EA");
-        self.emit(906, &[place, field as i64, record[field]]);
+        // Where a chunk was read in its place, there is nothing to mend.
+        if self.desk.list.get(place as usize).is_some_and(|met| met[field] == bad) {
+            self.emit(906, &[place, field as i64, record[field]]);
+        }
     }
 
     fn spoil_budget(&mut self) {

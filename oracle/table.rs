@@ -47,18 +47,20 @@ pub enum Arg {
     Curve,
     /// A list whose first number is a cycle's length.
     Cycle,
+    /// The bytes of a track chunk, as a list: scripts hold at most 4,095, each 0 to 255.
+    Chunk,
 }
 
 impl Arg {
     pub fn is_list(self) -> bool {
-        matches!(self, Arg::Values | Arg::Curve | Arg::Cycle)
+        matches!(self, Arg::Values | Arg::Curve | Arg::Cycle | Arg::Chunk)
     }
 }
 
 pub struct Call {
     pub op: i64,
     pub name: &'static str,
-    /// E the list (read), A the list (appended to), T the track, B the budget, C the cycle table, P the parameter named first.
+    /// E the list (read), A the list (appended to or replaced, what stands there not read), T the track, B the budget, C the cycle table, P the parameter named first.
     pub takes: &'static str,
     pub args: &'static [Arg],
 }
@@ -108,6 +110,7 @@ pub const CALLS: &[Call] = &[
     call(309, "play_from", "E", &[Time]),
     call(310, "full_cut", "E", &[Time]),
     call(311, "write_chunk", "E", &[Room]),
+    call(312, "read_chunk", "A", &[Chunk]),
     call(401, "param_new", "", &[PARAM]),
     call(402, "param_clear_reserve", "P", &[PARAM]),
     call(403, "param_has_reserve", "P", &[PARAM]),

@@ -1,11 +1,13 @@
 // Some calls of the linked port beside the original's, timed in one process. Both sides make the call once first, and what it writes is compared. A figure is the median of
-// batches that take turns; docs/PERFORMANCE.md says what was seen. The original has no track chunk of such a list: an ordinary writer with no tests stands in its place.
+// batches that take turns; docs/PERFORMANCE.md says what was seen. The original has no track chunk of such a list: an ordinary writer with no tests stands in its place, and of one that is read an ordinary reader, which tests what it reads.
 
 use crate::desk::{records_of, Record};
 use crate::dice::Dice;
 use crate::dollavir;
+use crate::fuzz::without_running;
 use crate::original::*;
-use crate::other::{records, Other};
+use crate::other::{records, Other, WIDTH};
+use crate::smf;
 use std::time::Instant;
 
 const BATCHES: usize = 101;
@@ -93,6 +95,10 @@ pub fn print() {
     cycle(500);
     for events in [100, 1_000, 10_000] {
         chunk(events);
+    }
+    for events in [1_000, 100_000] {
+        read("each with its status", &smf::chunk(&voice(events)).expect("a list that is written"), events);
+        read("running status", &without_running(&notes(events)), events);
     }
 }
 
@@ -264,5 +270,105 @@ fn chunk(events: usize) {
             assert!(code == 0, "write_chunk: refused");
         },
         |plain, (out, written)| plain[..] == out[..*written],
+    );
+}
+
+/// Notes of one channel, each ended by one of velocity 0, so that one status runs through.
+fn notes(events: usize) -> Vec<Record> {
+    let (mut dice, mut time, mut note) = (Dice::new(2), 0, 60);
+    (0..events)
+        .map(|at| {
+            time += dice.of(&[0, 6, 12, 24, 48, 192]);
+            if at % 2 == 0 {
+                note = dice.pick(36, 96);
+            }
+            [0, time, 0, note, 0, if at % 2 == 0 { dice.pick(1, 127) } else { 0 }, 0, 0]
+        })
+        .collect()
+}
+
+/// A quantity as it is usually read.
+fn plain_quantity(bytes: &[u8], at: &mut usize) -> Result<u32, &'static str> {
+    let mut value = 0;
+    for _ in 0..4 {
+        let byte = *bytes.get(*at).ok_or("cut short")?;
+        *at += 1;
+        value = value << 7 | u32::from(byte & 0x7f);
+        if byte & 0x80 == 0 {
+            return Ok(value);
+        }
+    }
+    Err("a quantity of more than four bytes")
+}
+
+/// A track chunk as it is usually read: once through, into a list that grows.
+fn plain_read(chunk: &[u8], events: &mut Vec<Record>) -> Result<(), &'static str> {
+    events.clear();
+    if chunk.len() < 8 || &chunk[..4] != b"MTrk" {
+        return Err("no track chunk");
+    }
+    let body = &chunk[8..];
+    if u32::from_be_bytes([chunk[4], chunk[5], chunk[6], chunk[7]]) as usize != body.len() {
+        return Err("a wrong length");
+    }
+    let (mut at, mut time, mut status) = (0, 0, 0);
+    loop {
+        time += i64::from(plain_quantity(body, &mut at)?);
+        let byte = *body.get(at).ok_or("cut short")?;
+        if byte >= 0x80 {
+            status = byte;
+            at += 1;
+        }
+        match status {
+            0x80..=0xef => {
+                let long = if matches!(status & 0xf0, 0xc0 | 0xd0) { 1 } else { 2 };
+                let data = body.get(at..at + long).ok_or("cut short")?;
+                at += long;
+                if data.iter().any(|&byte| byte >= 0x80) {
+                    return Err("a status among data");
+                }
+                let (channel, a, b) = (i64::from(status & 0x0f), i64::from(data[0]), data.get(1).map_or(0, |&byte| i64::from(byte)));
+                match status & 0xf0 {
+                    0x90 if b > 0 => events.push([0, time, channel, a, 0, b, 0, 0]),
+                    0x80 | 0x90 => events.push([1, time, channel, a, 0, 0, 0, 0]),
+                    0xb0 => events.push([2, time, channel, a, b, 0, 0, 0]),
+                    0xc0 => events.push([5, time, channel, a, 0, 0, 0, 0]),
+                    0xe0 => events.push([3, time, channel, a | b << 7, 0, 0, 0, 0]),
+                    _ => (),
+                }
+            }
+            0xff => {
+                let kind = *body.get(at).ok_or("cut short")?;
+                at += 1;
+                let length = plain_quantity(body, &mut at)? as usize;
+                if kind == 0x2f {
+                    return if length == 0 && at == body.len() { Ok(()) } else { Err("a wrong end of track") };
+                }
+                body.get(at..at + length).ok_or("cut short")?;
+                (at, status) = (at + length, 0);
+            }
+            0xf0 | 0xf7 => {
+                let length = plain_quantity(body, &mut at)? as usize;
+                body.get(at..at + length).ok_or("cut short")?;
+                (at, status) = (at + length, 0);
+            }
+            _ => return Err("no status"),
+        }
+    }
+}
+
+/// A chunk of so many events, read into a list that has room for them and holds those of the call before.
+fn read(what: &str, chunk: &[u8], events: usize) {
+    timed(
+        &format!("read_chunk, {events} events, {what}"),
+        if events > 1_000 { 2 } else { CALLS },
+        &mut vec![],
+        &mut (vec![0; WIDTH * events], 0),
+        |list| plain_read(std::hint::black_box(chunk), list).expect("a chunk that is read"),
+        |(list, count)| {
+            let code = unsafe { dollavir::dollavir_read_chunk(chunk.as_ptr(), chunk.len(), list.as_mut_ptr(), list.len(), count) };
+            assert!(code == 0, "read_chunk: refused");
+        },
+        |plain, (list, count)| *plain == records(list, *count),
     );
 }
