@@ -3,10 +3,11 @@
 
     python3 tools/readers.py FOLDER     FOLDER/lists and FOLDER/N.mid as tools/readers.c makes them
 
-A reader gives the format, the number of tracks and the timebase of a file, and all of its events in order: each its time from the start, its kind, its channel and what
-the message holds. That must be the list, and then an end of track at the last event's time, and no more. What differs is printed with the file, the event and both sides.
+A reader gives the format, the number of tracks and the timebase of a file, and of each track all events in order: each its time from the start, its kind, its channel and what
+the message holds. That must be one track, the list, and then an end of track at the last event's time, and no more. What differs is printed with the file, the event and both sides.
+tools/writers.py reads with the same readers.
 """
-import ctypes, ctypes.util, shutil, subprocess, sys
+import ctypes, ctypes.util, itertools, shutil, subprocess, sys
 
 NOTE_ON, NOTE_OFF, CONTROLLER, BEND, PROGRAM, END = 'NoteOn', 'NoteOff', 'controller', 'bend', 'program', 'end of track'
 
@@ -34,7 +35,16 @@ def listed(records):
     return events + [(records[-1][0] if records else 0, END)]
 
 
-# Each reader is opened once, and is then a function from a path to (format, tracks, timebase), events. A NoteOn of velocity 0 is one in all three.
+def message(status, *data):
+    """A channel's message in a reader's words, or the status alone of what is no list's."""
+    said = {0x8: lambda a, b: (NOTE_OFF, a, b), 0x9: lambda a, b: (NOTE_ON, a, b), 0xB: lambda a, b: (CONTROLLER, a, b), 0xC: lambda a: (PROGRAM, a), 0xE: lambda a, b: (BEND, b * 128 + a)}
+    if status >> 4 not in said:
+        return f'{status:02X}',
+    name, *values = said[status >> 4](*data)
+    return name, status & 15, *values
+
+
+# Each reader is opened once, and is then a function from a path to (format, tracks, timebase) and the events of each track. A NoteOn of velocity 0 is one in all three.
 
 def midicsv():
     if not shutil.which('midicsv'):
@@ -42,17 +52,26 @@ def midicsv():
     names = {'Note_on_c': NOTE_ON, 'Note_off_c': NOTE_OFF, 'Control_c': CONTROLLER, 'Pitch_bend_c': BEND, 'Program_c': PROGRAM, 'End_track': END}
 
     def read(path):
-        run = subprocess.run(['midicsv', path], capture_output=True, text=True)
+        run = subprocess.run(['midicsv', path], capture_output=True, encoding='latin-1')
         if run.returncode or run.stderr:
             raise ValueError(run.stderr.strip() or f'status {run.returncode}')
-        first, start, *lines, last = [line.split(', ') for line in run.stdout.splitlines()]
-        if start != ['1', '0', 'Start_track'] or last != ['0', '0', 'End_of_file']:
-            raise ValueError(f'{start} .. {last}')
-        return tuple(map(int, first[3:])), [(int(time), names.get(name, name), *map(int, said)) for _, time, name, *said in lines]
+        first, *lines, last = [line.split(', ') for line in run.stdout.split('\n')[:-1]]
+        if last != ['0', '0', 'End_of_file']:
+            raise ValueError(f'ends with {last}')
+        tracks = []
+        for track, time, name, *said in lines:
+            if name == 'Start_track':
+                tracks.append([])
+            elif int(track) != len(tracks):
+                raise ValueError(f'{name} of track {track} in track {len(tracks)}')
+            else:
+                tracks[-1].append((int(time), names[name], *map(int, said)) if name in names else (int(time), name))
+        return tuple(map(int, first[3:])), tracks
     return read
 
 
-def mido():
+def mido(clip=False):
+    """With `clip`, data bytes above 127 are read as 127: without, mido reads no system exclusive that has any."""
     try:
         import mido
     except ImportError:
@@ -62,12 +81,10 @@ def mido():
             'program_change': lambda m: (PROGRAM, m.channel, m.program), 'end_of_track': lambda m: (END,)}
 
     def read(path):
-        song = mido.MidiFile(path)
-        events, time = [], 0
-        for message in [m for track in song.tracks for m in track]:
-            time += message.time
-            events.append((time, *said.get(message.type, lambda m: (m.type,))(message)))
-        return (song.type, len(song.tracks), song.ticks_per_beat), events
+        song = mido.MidiFile(path, clip=clip)
+        times = [itertools.accumulate(m.time for m in track) for track in song.tracks]
+        tracks = [[(time, *said.get(m.type, lambda m: (m.type,))(m)) for time, m in zip(*both)] for both in zip(times, song.tracks)]
+        return (song.type, len(song.tracks), song.ticks_per_beat), tracks
     return read
 
 
@@ -90,42 +107,42 @@ def libsmf():
     library.smf_load.restype, library.smf_load.argtypes = ctypes.POINTER(Song), [ctypes.c_char_p]
     library.smf_get_next_event.restype, library.smf_get_next_event.argtypes = ctypes.POINTER(Heard), [ctypes.POINTER(Song)]
     library.smf_delete.restype, library.smf_delete.argtypes = None, [ctypes.POINTER(Song)]
-    said = {0x9: lambda a, b: (NOTE_ON, a, b), 0x8: lambda a, b: (NOTE_OFF, a, b), 0xB: lambda a, b: (CONTROLLER, a, b), 0xE: lambda a, b: (BEND, b * 128 + a), 0xC: lambda a: (PROGRAM, a)}
 
     def event(heard):
-        status, *data = heard.midi_buffer[:heard.midi_buffer_length]
-        if [status] + data == [0xFF, 0x2F, 0]:
-            return heard.time_pulses, END
-        name, *values = said[status >> 4](*data)
-        return heard.time_pulses, name, status & 15, *values
+        said = heard.midi_buffer[:heard.midi_buffer_length]
+        return heard.time_pulses, *((END,) if said == [0xFF, 0x2F, 0] else message(*said))
 
     def read(path):
         song = library.smf_load(path.encode())
         if not song:
             raise ValueError('not loaded')
-        events = []
-        while heard := library.smf_get_next_event(song):
-            events.append(event(heard.contents))
         about = song.contents.format, song.contents.number_of_tracks, song.contents.ppqn
+        tracks = [[] for _ in range(about[1])]
+        while heard := library.smf_get_next_event(song):
+            tracks[heard.contents.track_number - 1].append(event(heard.contents))
         library.smf_delete(song)
-        return about, events
+        return about, tracks
     # It counts time in 32 signed bits, and stops the process where they do not do.
     read.last = 2 ** 31 - 1
     return read
 
 
+def apart(written, read):
+    """The first place at which two lists differ, as a line, or nothing."""
+    for place, (one, other) in enumerate(itertools.zip_longest(written, read, fillvalue='nothing')):
+        if one != other:
+            return f'event {place}: written {one}, read {other}'
+
+
 def differs(path, about, events, read):
     """The first thing that is read otherwise than it is listed, as a line, or nothing."""
     try:
-        head, heard = read(path)
+        head, tracks = read(path)
     except Exception as fault:
         return f'is not read: {type(fault).__name__}: {fault}'
     if head != about:
         return f'format, tracks and timebase: written {about}, read {head}'
-    for place in range(max(len(events), len(heard))):
-        written, got = (side[place] if place < len(side) else 'nothing' for side in (events, heard))
-        if written != got:
-            return f'event {place}: written {written}, read {got}'
+    return apart(events, tracks[0])
 
 
 def whole(path):
