@@ -15,7 +15,8 @@ static dollavir_track_answer made;
 static dollavir_cycle cycles[PLACES];
 static dollavir_budget budget;
 static int64_t events[ROOM * WIDTH], out[ROOM * WIDTH];
-static size_t count, out_count;
+static size_t count, out_count, bytes;
+static uint8_t chunk[12 + 7 * ROOM];
 static const uint8_t store[1];
 static const int32_t list[] = {0, 100, 24, 100, 0, 24};
 static uint32_t code;
@@ -56,6 +57,8 @@ static void events_sort(void) { code = dollavir_events_sort(events, ROOM * WIDTH
 static void split_note_off(void) { code = dollavir_split_note_off(events, ROOM * WIDTH, count, out, ROOM * WIDTH, store, 0, &out_count); }
 static void normalize(void) { code = dollavir_normalize(events, ROOM * WIDTH, &count, store, 0); }
 static void play_from(void) { code = dollavir_play_from(events, ROOM * WIDTH, &count, 10, store, 0); }
+static void write_chunk(void) { code = dollavir_write_chunk(events, ROOM * WIDTH, count, store, 0, chunk, sizeof chunk, &bytes); }
+static void read_chunk(void) { code = dollavir_read_chunk(chunk, bytes, events, ROOM * WIDTH, &count); }
 static void full_cut(void) { code = dollavir_full_cut(events, ROOM * WIDTH, &count, 10, store, 0); }
 
 // Controllers at scattered times, as many as there is room for: the sort's worst case is near.
@@ -144,7 +147,7 @@ int main(void) {
         {NULL, NULL},
     };
     static const struct call of_list[] = {
-        CALL(split_note_off), CALL(normalize), CALL(events_sort), CALL(play_from), CALL(full_cut), {NULL, NULL},
+        CALL(split_note_off), CALL(normalize), CALL(events_sort), CALL(write_chunk), CALL(read_chunk), CALL(play_from), CALL(full_cut), {NULL, NULL},
     };
     stack = aligned_alloc(4096, STACK);
     if (stack == NULL) {
