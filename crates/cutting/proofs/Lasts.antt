@@ -2,11 +2,12 @@
 --     last-append, last-more   a list of two parts; one more event: it counts where the test holds of it
 --     last-less                the same, seen from a list that is searched from its end
 --     last-found, last-none    it is the one after which there is none; where there is none, the default
---     last-without, last-unsaid   of what is left of a list; where what went says nothing, of the list
+--     last-without, last-unsaid   of what is left of a list; where what went says nothing, of the list; `last-unsaid-in`, asked of that list alone
+--     last-any, last-thinned   where there is one the default does not matter; what goes is not missed where another stands behind it
 --     last-mapped, last-same, last-alike   of what became of its events, and by what is said alike of each
 --     lasts-more               what a cut remembers, after one more event (`noted`)
 use mathlib.Core.Path.{_≡_, refl, sym, ap, _∙_, fun-ext}
-use mathlib.Core.Bool.{Bool, true, false, cond, not, _&&_, _||_}
+use mathlib.Core.Bool.{Bool, true, false, cond, not, _&&_, _||_, true≢false}
 use mathlib.Core.List.{List, [], _∷_, _++_, map}
 use Prim.Native.Nat.{ℕ, _+_, _-_, _≤_, _<_}
 use native.Mathlib.Numerals.{add-one}
@@ -15,7 +16,7 @@ use borrow.Author.Tests.{not-true}
 use lib.IntN.{ℤ, pos}
 use lib.ListN.{length, getD, take}
 use lib.Seq.{take-suc}
-use Rattle.laws.specs.Lists.{all, unless, without}
+use Rattle.laws.specs.Lists.{all, any, unless, without, thinned}
 use Rattle.laws.proofs.Bools.{and-on, and-off}
 use Rattle.laws.proofs.Ranges.{left, right}
 use Rattle.events.specs.declared.Event.{Event}
@@ -73,6 +74,31 @@ module _ {A : Type 0} (p : Event → Bool) (f : Event → A) where
       go e true q = rw (h e q)
       go e false q = refl
 
+  pub last-any : (d d′ : A) (es : List Event) → any p es ≡ true → lastOf p f d es ≡ lastOf p f d′ es
+  unfolding any
+  last-any d d′ [] h = absurd (true≢false (sym h))
+  last-any d d′ (x ∷ es) h = go (p x) h (last-any d d′ es)
+    where
+      go : (b : Bool) → (b || any p es) ≡ true → (any p es ≡ true → lastOf p f d es ≡ lastOf p f d′ es) → lastOf p f (cond b (f x) d) es ≡ lastOf p f (cond b (f x) d′) es
+      go true k ih = refl
+      go false k ih = ih k
+
+  -- where each that counts and goes has one behind it that counts
+  pub last-thinned : (out : Event → List Event → Bool) (q : Event → Bool)
+      → ((e : Event) (behind : List Event) → q e ≡ true → all q behind ≡ true → p e ≡ true → out e behind ≡ true → any p behind ≡ true)
+      → (d : A) (es : List Event) → all q es ≡ true → lastOf p f d (thinned out es) ≡ lastOf p f d es
+  unfolding all
+  last-thinned out q h d [] y = refl
+  last-thinned out q h d (x ∷ es) y =
+      let rest = right (q x) (all q es) y in
+      go (out x es) refl (p x) refl (last-thinned out q h d es rest) (last-thinned out q h (cond (p x) (f x) d) es rest)
+    where
+      go : (t : Bool) → out x es ≡ t → (b : Bool) → p x ≡ b → lastOf p f d (thinned out es) ≡ lastOf p f d es
+          → lastOf p f (cond (p x) (f x) d) (thinned out es) ≡ lastOf p f (cond (p x) (f x) d) es → lastOf p f d (unless t x (thinned out es)) ≡ lastOf p f (cond b (f x) d) es
+      go true k true c gone stays = gone ∙ last-any d (f x) es (h x es (left (q x) (all q es) y) (right (q x) (all q es) y) c k)
+      go true k false c gone stays = gone
+      go false k b c gone stays = stays ∙ ap (λ (z : Bool). lastOf p f (cond z (f x) d) es) c
+
   pub last-mapped : (g : Event → Event) (d : A) (es : List Event) → lastOf p f d (map g es) ≡ lastOf (λ e. p (g e)) (λ e. f (g e)) d es
   last-mapped g d [] = refl
   last-mapped g d (x ∷ es) = last-mapped g (cond (p (g x)) (f (g x)) d) es
@@ -88,6 +114,15 @@ module _ {A : Type 0} (p : Event → Bool) (f : Event → A) where
       go : (t : Bool) → p x ≡ t → q x ≡ true → cond t (f x) d ≡ cond (p′ x) (f′ x) d
       go true e here = rw (sym (h x here) ∙ e) (k x here e)
       go false e here = rw (sym (h x here) ∙ e)
+
+  -- where what is left out says nothing in this list
+  pub last-unsaid-in : (out : Event → Bool) (d : A) (es : List Event) → all (λ e. not (p e) || not (out e)) es ≡ true → lastOf p f d (without out es) ≡ lastOf p f d es
+  last-unsaid-in out d es h =
+      last-without out d es ∙ sym (last-alike (λ e. not (p e) || not (out e)) (λ e. p e && not (out e)) f (λ e. go (p e) (not (out e))) (λ e y k. refl) d es h)
+    where
+      go : (b c : Bool) → (not b || c) ≡ true → b ≡ (b && c)
+      go true c y = sym y
+      go false c y = refl
 
 module _ (at : ℤ) (l : List Event) (i : ℕ) (h : i < length l) where
   abbrev e : Event

@@ -1,6 +1,6 @@
 -- A counted list whose first become others (`putFirst`), and the test of what counts of it (`counted`).
 --     shown, roomy, length-putFirst   what counts then, that there is room for it, how long the list is
---     put-same                        the first in their own place
+--     put-same, put-over              the first in their own place, and where as many were put before
 --     counted-put                     the test holds where it holds of what is put
 --     counted-without, counted-with   once some are taken out, and once one is put at the end
 use mathlib.Core.Path.{_≡_, sym, ap, _∙_}
@@ -10,8 +10,8 @@ use Prim.Native.Nat.{ℕ, _+_, _-_, _≤_, _<_, max}
 use native.Mathlib.Omega.{arith}
 use borrow.Author.Tests.{leb-true, le-leb}
 use lib.Dec.{leb}
-use lib.ListN.{length, take, length-append, length-replicate, length-drop, length-take, take-append-drop}
-use lib.Seq.{length-take-le, take-append-seam}
+use lib.ListN.{length, take, drop, replicate, length-append, length-replicate, length-drop, length-take, take-append-drop}
+use lib.Seq.{length-take-le, drop-at, take-append-seam}
 use Rattle.laws.specs.Lists.{all, counted, without, putFirst}
 use Rattle.laws.proofs.Ranges.{left, right}
 use Rattle.laws.proofs.Compact.{length-without}
@@ -31,6 +31,14 @@ module _ {A : Type 0} (z : A) (n : ℕ) where
       let a : n - length (take n l) ≡ 0 = omega arith in
       let m : max n (length (take n l)) ≡ n = omega arith in
       rw (a, m) (take-append-drop n l)
+
+  -- put first where as many as count were put before
+  pub put-over : (rs now l : List A) → length rs ≡ n → length now ≤ n → putFirst z n now (putFirst z n rs l) ≡ putFirst z n now l
+  put-over rs now l e h =
+      let none : n - length rs ≡ 0 = omega arith in
+      let most : max n (length rs) ≡ n = omega arith in
+      let top : max n (length now) ≡ n = omega arith in
+      rw (top, none, most) (ap (λ (x : List A). now ++ (replicate (n - length now) z ++ x)) (drop-at rs (drop n l) n e))
 
 module _ {A : Type 0} (z : A) (n : ℕ) (l : List A) where
   pub shown : (now : List A) → take (length now) (putFirst z n now l) ≡ now

@@ -18,6 +18,9 @@ pub mod Bools
 pub mod Every
 pub mod Fitting
 pub mod Moving
+pub mod Thinned
+pub mod Doubles
+pub mod Only
 pub mod Following
 pub mod Differences
 pub mod Cuts

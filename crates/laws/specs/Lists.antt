@@ -38,6 +38,11 @@ module _ {A : Type 0} where
   abbrev pub only : (A → Bool) → List A → List A
   only p xs = without (λ x. not (p x)) xs
 
+  -- those that stay, in order, where `out` is asked of each and of all that stand behind it
+  abbrev pub thinned : (A → List A → Bool) → List A → List A
+  thinned out [] = []
+  thinned out (x ∷ xs) = unless (out x xs) x (thinned out xs)
+
   -- a counted list whose first n become `now`: places that fall vacant are z, those past both stay
   abbrev pub putFirst : A → ℕ → List A → List A → List A
   putFirst z n now l = now ++ (replicate (n - length now) z ++ drop (max n (length now)) l)

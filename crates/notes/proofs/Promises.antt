@@ -1,12 +1,14 @@
 -- What a customer leans on: every event is kept, and each note adds one.
-use mathlib.Core.Path.{_≡_, refl}
-use mathlib.Core.Bool.{Bool, true, false, cond, not}
-use mathlib.Core.List.{List, [], _∷_, List·Memᴰ, List·Memᴰ·head, List·Memᴰ·cases-cons, List·Memᴰ·not-nil, Memᴰ·append-left, Memᴰ·append-right}
+--     adds-one-each, keeps-every   how many events there are then, and that each is there
+--     without-ends, all-ends       thinned of the ends of notes the list is as it was; a test that holds of every end holds throughout where it did
+use mathlib.Core.Path.{_≡_, refl, ap}
+use mathlib.Core.Bool.{Bool, true, false, cond, not, _&&_}
+use mathlib.Core.List.{List, [], _∷_, _++_, List·Memᴰ, List·Memᴰ·head, List·Memᴰ·cases-cons, List·Memᴰ·not-nil, Memᴰ·append-left, Memᴰ·append-right}
 use mathlib.Core.Logic.{⊎-elim}
 use Prim.Native.Nat.{_+_}
 use native.Mathlib.Omega.{arith}
 use lib.ListN.{length}
-use Rattle.laws.specs.Lists.{without}
+use Rattle.laws.specs.Lists.{all, unless, without}
 use Rattle.laws.proofs.Bools.{which}
 use Rattle.events.specs.declared.Event.{Event}
 use Rattle.notes.specs.Notes.{isNote, offOf, withOff, splitNotes}
@@ -36,3 +38,22 @@ keeps-every (x ∷ es) e m =
     (λ q. Memᴰ·append-left {s = withOff x} (splitNotes es) (rw q (first (isNote x) x (offOf x))))
     (λ r. Memᴰ·append-right (withOff x) (keeps-every es e r))
     (List·Memᴰ·cases-cons m)
+
+-- ---- what the ends leave alone
+pub without-ends : (out : Event → Bool) → ((e : Event) → out (offOf e) ≡ true) → (es : List Event) → without out (splitNotes es) ≡ without out es
+unfolding splitNotes
+without-ends out ends [] = refl
+without-ends out ends (e ∷ es) = go (isNote e) (without-ends out ends es)
+  where
+    go : (b : Bool) → without out (splitNotes es) ≡ without out es → without out (cond b (e ∷ offOf e ∷ []) (e ∷ []) ++ splitNotes es) ≡ unless (out e) e (without out es)
+    go true same = rw (ends e) (ap (unless (out e) e) same)
+    go false same = ap (unless (out e) e) same
+
+pub all-ends : (p : Event → Bool) → ((e : Event) → p (offOf e) ≡ true) → (es : List Event) → all p (splitNotes es) ≡ all p es
+unfolding all splitNotes
+all-ends p ends [] = refl
+all-ends p ends (e ∷ es) = go (isNote e) (all-ends p ends es)
+  where
+    go : (b : Bool) → all p (splitNotes es) ≡ all p es → all p (cond b (e ∷ offOf e ∷ []) (e ∷ []) ++ splitNotes es) ≡ (p e && all p es)
+    go true same = rw (ends e) (ap (λ (b : Bool). p e && b) same)
+    go false same = ap (λ (b : Bool). p e && b) same
