@@ -13,7 +13,7 @@ use Rattle.laws.specs.Lists.{all}
 use Rattle.laws.specs.Rows.{flat}
 use Rattle.laws.proofs.Bits.{eqZ-true}
 use Rattle.laws.proofs.Ranges.{left, right}
-use Rattle.numbers.specs.Ranges.{isChannel}
+use Rattle.numbers.specs.Ranges.{isChannel, isBend}
 use Rattle.events.specs.declared.Event.{Event}
 use Rattle.events.specs.Kinds.{noteOn, noteOff, controlChange, pitchBend, voice, hasData}
 use Rattle.events.specs.Events.{plainEvent, okData, okEvent}
@@ -21,7 +21,7 @@ use Rattle.events.proofs.Stored.{Storable, storable}
 use Rattle.quantities.specs.Quantities.{quantityOf}
 use Rattle.quantities.proofs.Groups.{quantity-size}
 use Rattle.chunks.specs.Chunks.{messageOf, gapAfter, writtenAfter, bodyFrom, bodyOf, bigEndian, lengthTop, chunkOf}
-use Rattle.chunks.specs.Writing.{isData, isBend, fits, headBytes}
+use Rattle.chunks.specs.Writing.{isData, fits, headBytes}
 use Rattle.chunks.specs.Steps.{Ready}
 use Rattle.chunks.specs.Reader.{Whole, readBody, bigEndianIn}
 use Rattle.chunks.specs.Told.{Writes, told, eventIn}

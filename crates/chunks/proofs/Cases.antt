@@ -7,12 +7,13 @@ use lib.IntN.{pos, negsuc}
 use lib.ListN.{getD}
 use Rattle.laws.specs.Integers.{inside}
 use Rattle.laws.specs.Lists.{all}
+use Rattle.numbers.specs.Ranges.{isBend}
 use Rattle.events.specs.declared.Event.{Event}
 use Rattle.events.specs.Kinds.{noteOff}
 use Rattle.events.specs.Events.{plainEvent, noteEvent, voiceEvent, ccEvent, pitchBendEvent, pitchBendRangeEvent}
 use Rattle.quantities.specs.Quantities.{quantityOf, quantityFrom}
 use Rattle.chunks.specs.Chunks.{messageOf, writtenAfter, bodyFrom, bodyOf, bigEndian, chunkOf}
-use Rattle.chunks.specs.Writing.{gapped, isData, isBend, fits, roomFor, unwritten}
+use Rattle.chunks.specs.Writing.{gapped, isData, fits, roomFor, unwritten}
 use Rattle.chunks.specs.Reader.{single, stepOver, endIn, metaIn, secondIn, messageIn, statusIn, seenIn, readFrom, readBody}
 use Rattle.chunks.specs.Told.{told, eventIn}
 

@@ -11,11 +11,11 @@ use lib.IntN.{ℤ, pos, negsuc}
 use Rattle.laws.specs.Integers.{eqZ, inside, cut}
 use Rattle.laws.proofs.Bits.{eqZ-true}
 use Rattle.laws.proofs.Ranges.{left, right}
-use Rattle.numbers.specs.Ranges.{isChannel}
+use Rattle.numbers.specs.Ranges.{isChannel, isBend}
 use Rattle.events.specs.declared.Event.{Event}
 use Rattle.events.specs.Kinds.{noteOn, noteOff, controlChange, pitchBend, voice}
 use Rattle.chunks.specs.Chunks.{messageOf}
-use Rattle.chunks.specs.Writing.{isData, isBend, fits}
+use Rattle.chunks.specs.Writing.{isData, fits}
 use Rattle.chunks.specs.Reader.{single}
 use Rattle.chunks.proofs.Leaves.{cut-most}
 

@@ -8,12 +8,12 @@ use native.Mathlib.Omega.{arith}
 use lib.IntN.{ℤ, pos}
 use Rattle.laws.specs.Integers.{eqZ, inside}
 use Rattle.laws.proofs.Ranges.{left, right}
-use Rattle.numbers.specs.Ranges.{isEventTime, isChannel, isWord, isController}
+use Rattle.numbers.specs.Ranges.{isEventTime, isChannel, isWord, isController, isBend}
 use Rattle.events.specs.declared.Event.{Event}
 use Rattle.events.specs.Kinds.{isKind, hasData}
 use Rattle.events.specs.Events.{okNumbered, okData, okEvent}
 use Rattle.events.proofs.Stored.{storable, storable-ok, small-word}
-use Rattle.chunks.specs.Writing.{follows, isData, isBend, fits}
+use Rattle.chunks.specs.Writing.{follows, isData, fits}
 use Rattle.chunks.specs.Steps.{wellAfter}
 use Rattle.chunks.proofs.Sending.{Kinded, sounds, ends, controls, chooses, bends, kinded}
 

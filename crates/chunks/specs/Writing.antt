@@ -9,6 +9,7 @@ use lib.IntN.{ℤ, pos, _-ℤ_}
 use lib.ListN.{length}
 use Rattle.laws.specs.Integers.{eqZ, inside}
 use Rattle.laws.specs.Lists.{all}
+use Rattle.numbers.specs.Ranges.{isBend}
 use Rattle.events.specs.declared.Event.{Event}
 use Rattle.events.specs.Kinds.{noteOn, noteOff, controlChange, pitchBend, voice}
 use Rattle.eventlist.specs.Rows.{eventsOf}
@@ -33,12 +34,9 @@ gapped t [] = true
 gapped t (e ∷ es) = follows t e && gapped (e .time) es
 
 -- ---- 11
--- a data byte has seven bits, a bend two of them
+-- a data byte has seven bits, a bend two data bytes
 unfoldable pub isData : ℤ → Bool
 isData z = inside (pos 0) (pos 127) z
-
-unfoldable pub isBend : ℤ → Bool
-isBend z = inside (pos 0) (pos 16383) z
 
 -- a kind that is written, and each field that is written of it in its width
 unfoldable pub fits : Event → Bool

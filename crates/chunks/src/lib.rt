@@ -9,11 +9,11 @@ ghost use Prim.Native.Nat.{_+_, _/_, _%_, _≤_, _<_};
 ghost use lib.IntN.{pos};
 ghost use lib.ListN.{length};
 ghost use Rattle.laws.specs.Integers.{cut};
-ghost use Rattle.numbers.specs.Ranges.{isEventTime, isChannel};
+ghost use Rattle.numbers.specs.Ranges.{isEventTime, isChannel, isBend};
 ghost use Rattle.eventlist.specs.Rows.{rowsOf, eventsOf};
 ghost use Rattle.text.specs.Laying.{laid};
 ghost use Rattle.chunks.specs.Chunks.{messageOf, writtenAfter, bodyOf, bigEndian, mark};
-ghost use Rattle.chunks.specs.Writing.{isData, isBend, fits, headBytes, roomFor, refusedChunk, chunkWritten, chunkLeft};
+ghost use Rattle.chunks.specs.Writing.{isData, fits, headBytes, roomFor, refusedChunk, chunkWritten, chunkLeft};
 ghost use Rattle.chunks.specs.Steps.{tallied, weighed, wellAfter, bytesOf, Writable, Ready};
 use eventlist::list_ok;
 use eventlist::read_event;
@@ -24,6 +24,7 @@ use events::NOTE_ON;
 use events::PITCH_BEND;
 use events::VOICE;
 use events::event_ok;
+use numbers::is_bend;
 use numbers::is_channel;
 use numbers::is_event_time;
 use numbers::is_word;
@@ -45,9 +46,6 @@ const STATUS_BEND: u8 = 224;
 
 // The longest gap.
 const LONGEST: i64 = 268435455;
-
-// The largest bend.
-const WIDEST: i64 = 16383;
 
 // The bytes of a chunk before its body, and of the end of track with its gap.
 const HEAD: usize = 8;
@@ -90,7 +88,7 @@ fn event_fits(e: Event) -> bool
         | ((e.kind == NOTE_OFF) & first)
         | ((e.kind == CONTROL_CHANGE) & first & is_data(e.v2))
         | ((e.kind == VOICE) & first)
-        | ((e.kind == PITCH_BEND) & within(0, e.v1, WIDEST))
+        | ((e.kind == PITCH_BEND) & is_bend(e.v1))
 }
 
 // How many bytes a kind's message has.

@@ -43,6 +43,10 @@ isSineEnd z = sized 16383 z
 unfoldable pub isController : ℤ → Bool
 isController z = inside (pos 0) (pos 127) z
 
+-- 02, b) and j): a bend of two data bytes, 0 to 16,383
+unfoldable pub isBend : ℤ → Bool
+isBend z = inside (pos 0) (pos 16383) z
+
 -- a target's code: a controller, 128 for bend 0, 129 for bend 1
 unfoldable pub isTarget : ℤ → Bool
 isTarget z = inside (pos 0) (pos 129) z

@@ -6,7 +6,7 @@ ghost use Prim.Native.Nat.{_<_, _^_};
 ghost use lib.Signed.{mag};
 ghost use Rattle.laws.specs.Integers.{inside, rangeOf};
 ghost use Rattle.numbers.specs.Random.{nextRand, spread};
-ghost use Rattle.numbers.specs.Ranges.{isTime, isStoredTime, isEventTime, isNumber, isLength, isRandom, isSineEnd, isController, isTarget, isChannel, isTimebase, isWord, isBytes};
+ghost use Rattle.numbers.specs.Ranges.{isTime, isStoredTime, isEventTime, isNumber, isLength, isRandom, isSineEnd, isController, isBend, isTarget, isChannel, isTimebase, isWord, isBytes};
 
 // Below `low` gives `low`, otherwise above `high` gives `high`, whichever of the two is the greater.
 pub fn value_range(low: i64, v: i64, high: i64) -> i64
@@ -116,6 +116,13 @@ pub fn is_controller(z: i64) -> bool
     ensures { λ r. ⌜ r ≡ isController z ⌝ }
 {
     within(0, z, 127)
+}
+
+// A bend that two data bytes hold.
+pub fn is_bend(z: i64) -> bool
+    ensures { λ r. ⌜ r ≡ isBend z ⌝ }
+{
+    within(0, z, 16383)
 }
 
 pub fn is_word(z: i64) -> bool

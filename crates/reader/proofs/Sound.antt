@@ -20,7 +20,7 @@ use Rattle.laws.specs.Lists.{all}
 use Rattle.laws.proofs.Ranges.{left, right}
 use Rattle.laws.proofs.Every.{all-imply}
 use Rattle.laws.proofs.Order.{nltZ-trans, ltZ-irrefl, le-not-lt, nlt-le, from-zero}
-use Rattle.numbers.specs.Ranges.{isChannel, isWord}
+use Rattle.numbers.specs.Ranges.{isChannel, isWord, isBend}
 use Rattle.events.specs.declared.Event.{Event}
 use Rattle.events.specs.Kinds.{noteOn, noteOff, controlChange, pitchBend, voice}
 use Rattle.events.specs.Events.{plainEvent, okEvent}
@@ -30,7 +30,7 @@ use Rattle.sorting.specs.Sorting.{earlier}
 use Rattle.sorting.proofs.Rising.{sorted-rising}
 use Rattle.sorting.proofs.Earlier.{earlier-trans}
 use Rattle.chunks.specs.Reader.{Whole, seenIn, readFrom}
-use Rattle.chunks.specs.Writing.{longestGap, gapped, isData, isBend, fits}
+use Rattle.chunks.specs.Writing.{longestGap, gapped, isData, fits}
 use Rattle.chunks.specs.Steps.{wellAfter}
 use Rattle.chunks.specs.Told.{told, eventIn}
 use Rattle.chunks.proofs.Well.{well-stored}

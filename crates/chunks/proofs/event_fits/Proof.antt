@@ -5,10 +5,10 @@ use lib.Dec.{lit<}
 use lib.IntN.{pos}
 use mir.Syntax.{w64}
 use mir.Val.{SFits}
-use Rattle.laws.specs.Integers.{inside}
 use Rattle.laws.proofs.Bits.{flag}
 use Rattle.laws.proofs.Tests.{is-at, both, one-of}
-use Rattle.chunks.specs.Writing.{isData, isBend, fits}
+use Rattle.numbers.specs.Ranges.{isBend}
+use Rattle.chunks.specs.Writing.{isData, fits}
 use Rattle.chunks.proofs.event_fits.Statement.{statement}
 use Rattle.chunks.proofs.event_fits.Tie as tie
 
@@ -24,11 +24,11 @@ is-data-requires-2 c κs = search needs
 is-data-requires-3 : tie.Need-is-data-requires-3
 is-data-requires-3 c κs = search needs
 
-within-requires : tie.Need-within-requires
-within-requires c κs = search needs
+is-bend-requires : tie.Need-is-bend-requires
+is-bend-requires c κs = search needs
 
 returns : tie.Need-returns
-unfolding fits isBend
+unfolding fits
 returns c =
     let t = c .before .before .before .before .before .before .before .before .before .before .before .before .before .before .before .before .before in
     let g = t .struct-told .given in
@@ -36,7 +36,7 @@ returns c =
     let first = is-at w64 isData (g .1 .1 .1 .0 .1) (c .before .before .before .before .before .before .before .before .before .before .before .before .before .before .before .before .is-data .ensures) in
     let third = is-at w64 isData (g .1 .1 .1 .1 .1 .0 .1) (c .before .before .before .before .before .before .before .before .before .before .before .before .is-data2 .ensures) in
     let second = is-at w64 isData (g .1 .1 .1 .1 .0 .1) (c .before .before .before .before .before .before .is-data3 .ensures) in
-    let bend = is-at w64 (inside (pos 0) (pos 16383)) (g .1 .1 .1 .0 .1) (c .within .ensures) in
+    let bend = is-at w64 isBend (g .1 .1 .1 .0 .1) (c .is-bend .ensures) in
     one-of
     (one-of
     (one-of
@@ -48,4 +48,4 @@ returns c =
 pub event-fits-spec : {M : Type 1} → statement M
 event-fits-spec =
     tie.close
-    (tie.spec is-data-requires is-data-requires-2 is-data-requires-3 within-requires returns)
+    (tie.spec is-data-requires is-data-requires-2 is-data-requires-3 is-bend-requires returns)

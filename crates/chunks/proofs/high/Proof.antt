@@ -3,7 +3,7 @@ use mathlib.Core.Path.{ap}
 use Prim.Native.Nat.{ℕ, _/_}
 use native.Mathlib.Omega.{arith}
 use mir.Syntax.{w64}
-use Rattle.chunks.specs.Writing.{isBend}
+use Rattle.numbers.specs.Ranges.{isBend}
 use Rattle.chunks.proofs.Leaves.{cast-fits, cast-cut, cut-most}
 use Rattle.chunks.proofs.high.Statement.{statement}
 use Rattle.chunks.proofs.high.Tie as tie

@@ -4,7 +4,7 @@ use Prim.Native.Nat.{ℕ, _%_}
 use native.Mathlib.Omega.{arith}
 use mir.Syntax.{w64}
 use borrow.Author.Needs.{needs}
-use Rattle.chunks.specs.Writing.{isBend}
+use Rattle.numbers.specs.Ranges.{isBend}
 use Rattle.chunks.proofs.Leaves.{cast-fits, cast-cut}
 use Rattle.chunks.proofs.low.Statement.{statement}
 use Rattle.chunks.proofs.low.Tie as tie

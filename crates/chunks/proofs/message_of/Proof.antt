@@ -14,10 +14,11 @@ use Rattle.laws.specs.Integers.{eqZ, cut}
 use Rattle.laws.proofs.Bits.{eqZ-true}
 use Rattle.laws.proofs.Bools.{which}
 use Rattle.laws.proofs.Ranges.{left, right}
+use Rattle.numbers.specs.Ranges.{isBend}
 use Rattle.events.specs.declared.Event.{Event}
 use Rattle.events.specs.Kinds.{noteOn, noteOff, controlChange, pitchBend, voice}
 use Rattle.chunks.specs.Chunks.{messageOf}
-use Rattle.chunks.specs.Writing.{isData, isBend, fits}
+use Rattle.chunks.specs.Writing.{isData, fits}
 use Rattle.chunks.proofs.Leaves.{is-kind, not-kind}
 use Rattle.chunks.proofs.message_of.Statement.{statement}
 use Rattle.chunks.proofs.message_of.Tie as tie
