@@ -202,7 +202,7 @@ fn is_kind(kind: i64) -> bool
 }
 
 // Whether events of this kind have data.
-fn has_data(kind: i64) -> bool
+pub fn has_data(kind: i64) -> bool
     ensures { λ r. ⌜ r ≡ hasData kind ⌝ }
 {
     match kind {

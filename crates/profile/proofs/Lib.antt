@@ -1,0 +1,9 @@
+pub mod Ahead
+pub mod Twins
+pub mod Thinning
+pub mod Promises
+pub mod Refusing
+pub mod Looking
+pub mod Sound
+pub mod Calls
+pub mod Cases
