@@ -7,3 +7,5 @@ pub mod Twice
 pub mod Reading
 pub mod Calls
 pub mod Edges
+pub mod Fitted
+pub mod Normalized

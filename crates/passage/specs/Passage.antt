@@ -11,6 +11,7 @@ use Rattle.laws.specs.Lists.{all, only}
 use Rattle.events.specs.declared.Event.{Event}
 use Rattle.events.specs.Kinds.{noteOn, noteOff, controlChange, pitchBend, pitchBendRange, voice, meta, sysEx, directSmf}
 use Rattle.eventlist.specs.declared.Taken.{Taken}
+use Rattle.notes.specs.Notes.{splitTaken, splitLeft}
 use Rattle.cutting.specs.Cuts.{withTime, folds, tells, whole, cutTaken, cutLeft}
 
 -- notes, controllers, programs and bends
@@ -52,3 +53,8 @@ pub record FromOne (at : ℤ) (es : List Event) : Type 0 where
 pub record CutOut (store : ℕ) (l : List ℤ) (count : ℕ) (at : ℤ) (left : ℕ) (l′ : List ℤ) : Type 0 where
   pub answer : _≡_ {A = Taken} (record { code = 0; count = left }) (cutTaken store l count (whole at))
   pub list : l′ ≡ cutLeft store l count (whole at)
+
+-- `normalize`, called on the first `count` events of l, answered 0 and `left`, and left the list l′: the same of its contract
+pub record SplitUp (store : ℕ) (l : List ℤ) (count left : ℕ) (l′ : List ℤ) : Type 0 where
+  pub answer : _≡_ {A = Taken} (record { code = 0; count = left }) (splitTaken store l count l)
+  pub list : l′ ≡ splitLeft store l count l count
