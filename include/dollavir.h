@@ -15,6 +15,8 @@
  *   13 not a track chunk, or its length is not that of the bytes behind it
  *   14 an event that is cut short or faulty
  *   15 no end of track behind the last event, or bytes behind it
+ *   17 events on more than one channel
+ *   18 a time below 0
  * A pointer must be valid, aligned and not null, also where its length is 0, and what two parameters point at
  * must not overlap. A slice is a pointer and the number of its elements. The event list has eight numbers a
  * record: kind, time, channel, v1, v2, v3, offset, length. What a function does not read it does not test:
@@ -569,6 +571,22 @@ uint32_t dollavir_write_chunk(const int64_t *events, size_t events_length, size_
    the list and the count are left as they are. */
 uint32_t dollavir_read_chunk(const uint8_t *chunk, size_t chunk_length, int64_t *events, size_t events_length,
     size_t *count);
+
+/* ---- the rehearsal player's profile ---- */
+
+/* Leaves in `yes` whether the rehearsal player accepts the list: 1 where its controllers are 1, 7, 10, 11 and 64
+   only, at most one of each at a time, its bends 0 to 16,383, all its events but Meta, SysEx and DirectSMF on one
+   channel, and its times from 0 on and never falling; else 0, as where it refuses. Refuses 1, 4. */
+uint32_t dollavir_check_profile(const int64_t *events, size_t events_length, size_t count,
+    const uint8_t *store, size_t store_length, uint32_t *yes);
+
+/* Fits the list to the rehearsal player: sorts it by time, events of one time in their order, and drops
+   controllers but 1, 7, 10, 11 and 64, bends outside 0 to 16,383, and of a controller's events at one time all
+   but the last. Leaves the new count in `count`; the places that fall vacant are zeroed. Refuses 1, 4, then 17
+   more than one channel (Meta, SysEx and DirectSMF not counted), then 18 a time below 0, each asked of the list
+   handed in; then the list and the count are left as they are. */
+uint32_t dollavir_fit_profile(int64_t *events, size_t events_length, size_t *count, const uint8_t *store,
+    size_t store_length);
 
 /* ---- the track's parameters and layers ---- */
 

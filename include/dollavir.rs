@@ -14,6 +14,8 @@
 //   13 not a track chunk, or its length is not that of the bytes behind it
 //   14 an event that is cut short or faulty
 //   15 no end of track behind the last event, or bytes behind it
+//   17 events on more than one channel
+//   18 a time below 0
 // A pointer must be valid, aligned and not null, also where its length is 0, and what two parameters point at
 // must not overlap. A slice is a pointer and the number of its elements. The event list has eight numbers a
 // record: kind, time, channel, v1, v2, v3, offset, length. What a function does not read it does not test:
@@ -571,6 +573,20 @@ extern "C" {
     // as it says; 14 an event that is cut short or faulty; 15 no end of track, or bytes behind it; 7; 4 an event
     // later than 2^42. Then the list and the count are left as they are.
     pub fn dollavir_read_chunk(chunk: *const u8, chunk_length: usize, events: *mut i64, events_length: usize, count: *mut usize) -> u32;
+
+    // ---- the rehearsal player's profile
+
+    // Leaves in `yes` whether the rehearsal player accepts the list: 1 where its controllers are 1, 7, 10, 11 and
+    // 64 only, at most one of each at a time, its bends 0 to 16,383, all its events but Meta, SysEx and DirectSMF
+    // on one channel, and its times from 0 on and never falling; else 0, as where it refuses. Refuses 1, 4.
+    pub fn dollavir_check_profile(events: *const i64, events_length: usize, count: usize, store: *const u8, store_length: usize, yes: *mut u32) -> u32;
+
+    // Fits the list to the rehearsal player: sorts it by time, events of one time in their order, and drops
+    // controllers but 1, 7, 10, 11 and 64, bends outside 0 to 16,383, and of a controller's events at one time
+    // all but the last. Leaves the new count in `count`; the places that fall vacant are zeroed. Refuses 1, 4,
+    // then 17 more than one channel (Meta, SysEx and DirectSMF not counted), then 18 a time below 0, each asked
+    // of the list handed in; then the list and the count are left as they are.
+    pub fn dollavir_fit_profile(events: *mut i64, events_length: usize, count: *mut usize, store: *const u8, store_length: usize) -> u32;
 
     // ---- the track's parameters and layers
 

@@ -38,6 +38,8 @@ The event list
     eventlist::remove_pitch_bend_in_range sorting::events_sort notes::split_note_off notes::normalize cutting::play_from cutting::full_cut
 A file's track chunk
     chunks::write_chunk reader::read_chunk
+The rehearsal player's profile
+    profile::check_profile profile::fit_profile
 The track's parameters and layers
     playing::calc_v_on_time playing::calc_t_on_time playing::calc_qlen_on_time playing::calc_o_on_time playing::calc_l_on_time
     playing::calc_v_on_note playing::calc_t_on_note playing::calc_qlen_on_note playing::calc_o_on_note playing::calc_l_on_note
@@ -85,6 +87,7 @@ ANSWERS = {
     'Cycled': ('cycling', 'CycleWritten', 'the write of the cycles: besides, the records cs of the lent cycle table'),
     'CcValue': ('cutting', 'CcTold', 'a controller\'s value'),
     'Taken': ('eventlist', 'ListLeft', 'a call on the list alone: the number r, the count n, the numbers m'),
+    'ProfileAnswer': ('profile', 'ProfileTold', 'the check of a list: the number r, and k, 1 for yes and 0 for no'),
     'Chunk': ('chunks', 'ChunkLeft', 'a call that writes into an output: the number r, the bytes n, every byte m of the output'),
     'ParamAnswer': ('params', 'ParamLeft', 'a parameter that is lent by itself: the number r, the parameter p'),
     'ParamValue': ('params', 'ParamTaken', 'the same with the value v'),
@@ -96,12 +99,12 @@ ANSWERS = {
 }
 LISTED = {**dict.fromkeys(('Outcome', 'Noted', 'Cycled', 'Taken'), 'ℤ'), 'Chunk': 'ℕ'}  # they leave a list besides, or an output: of what
 OUTPUT = ('split_note_off', 'write_chunk')  # they leave it in `out`
-LETTER = {'track': 't', 'value': 'v', 'budget': 'b', 'count': 'n', 'option': 'o', 'cycles': 'cs', 'param': 'p', 'layers': 'l', 'bytes': 'n', 'found': 'k'}
+LETTER = {'track': 't', 'value': 'v', 'budget': 'b', 'count': 'n', 'option': 'o', 'cycles': 'cs', 'param': 'p', 'layers': 'l', 'bytes': 'n', 'found': 'k', 'yes': 'k'}
 HOME = {**{k: v[0] for k, v in ANSWERS.items()}, 'Answer': 'lending', 'Track': 'state', 'Budget': 'budget', 'Cycle': 'cycles', 'WriteOption': 'values', 'OnNoteSine': 'tables',
         'NoteParam': 'params', 'Layers': 'layers', 'Event': 'events', 'Made': 'events', 'OnCycleTime': 'reserved', 'BudgetAnswer': 'budget', 'SineAnswer': 'tables',
         'CycleTimeAnswer': 'reserved'}
 LENT = ('track', 'param', 'layers', 'event', 'cycle', 'budget', 'count')  # by value to the call, by reference here
-ALONE = ('eventlist', 'sorting', 'notes', 'cutting', 'chunks', 'reader')  # calls that are lent slices and numbers alone: the prover covers them, and no walk is written
+ALONE = ('eventlist', 'sorting', 'notes', 'cutting', 'chunks', 'reader', 'profile')  # calls that are lent slices and numbers alone: the prover covers them, and no walk is written
 
 
 def left_of(answer):
@@ -225,6 +228,10 @@ class Export:
             c = c.replace('Answers how many bytes the chunk has;', 'Leaves in `bytes` how many bytes the chunk has, 0 where it refuses;')
         if self.g.name == 'read_chunk':
             c = c.replace('Answers how many events the list has.', 'Leaves in `count` how many events the list has.').replace('Then the list is left as it is, and the count handed back.', 'Then the list and the count are left as they are.')
+        if self.g.name == 'check_profile':
+            c = c.replace('Tells whether the rehearsal player accepts the list: 1 where', 'Leaves in `yes` whether the rehearsal player accepts the list: 1 where').replace('else 0.', 'else 0, as where it refuses.')
+        if self.g.name == 'fit_profile':
+            c = c.replace('Answers the new count;', 'Leaves the new count in `count`;').replace('then the list is left as it is', 'then the list and the count are left as they are')
         if self.g.name == 'split_note_off':
             c = c.replace('and answers how many they are', 'and leaves their number in `out_count`').replace('then all of `out` is left as it is', 'then all of `out` is left as it is, and `out_count` is `count`')
         return wrapped(c)
@@ -260,15 +267,16 @@ class Export:
         if self.answer == 'u32' or not (signed or alone):
             return
         bytes_back = any(t == '&mut [u8]' for _, t in self.params)  # what comes back in an output of bytes is told in a step of its own
-        said = f'c{" .before" * (alone + bytes_back)} .{d} .ensures'
+        leaves = alone and self.left is not None  # a list or an output, whose length is kept
+        said = f'c{" .before" * (leaves + bytes_back)} .{d} .ensures'
         start = 'c' + ' .before' * (5 if alone else 1 + any(t == '&[u8]' for _, t in self.params))
         if signed:
             said = f'rw ({", ".join(f"toZ-ofZ (s .fits .{n})" for n in signed)}) at ({said})'
         if self.answer in ('i32', 'i64'):
             said = f'toZ-ofZ {{w = w{self.answer[1:]}}} (sfits-of (c .{d} .ok)) ∙ ({said})'
         if alone:
-            parts = '; '.join(f'{f} = ap (λ (t : {self.answer}). t .{f}) (e .0)' for f in self.fields)
-            said = f'let e = {said} in record {{ {parts}; {left_of(self.answer)} = e .1 }}'
+            parts = [f'{f} = ap (λ (t : {self.answer}). t .{f}) {"(e .0)" if leaves else "e"}' for f in self.fields] + [f'{left_of(self.answer)} = e .1'] * leaves
+            said = f'let e = {said} in record {{ {"; ".join(parts)} }}'
         if signed:
             said = f'let s = {start} in {said}'
         m, spec = f'Rattle.ctrack.proofs.{self.name}', self.name.replace('_', '-') + '-spec'
@@ -277,8 +285,8 @@ class Export:
         if self.answer in ('i32', 'i64'):
             out[1:] = ['use mathlib.Core.Path.{_∙_}', f'use mir.Syntax.{{w{self.answer[1:]}}}', 'use mir.Facts.{toZ-ofZ}', 'use borrow.Author.Needs.{needs, sfits-of}']
         out += [f'use {m}.Statement.{{statement}}', f'use {m}.Tie as tie', '', f'{d}-requires : tie.Need-{d}-requires', f'{d}-requires c κs = search needs', '']
-        out += ['same-length : tie.Need-same-length', 'same-length c = search needs', ''] * alone + ['returns : tie.Need-returns', f'returns c = {said}', '']
-        out += [f'pub {spec} : {{M : Type 1}} → statement M', f'{spec} = tie.close (tie.spec {d}-requires {"same-length " * alone}returns)', '']
+        out += ['same-length : tie.Need-same-length', 'same-length c = search needs', ''] * leaves + ['returns : tie.Need-returns', f'returns c = {said}', '']
+        out += [f'pub {spec} : {{M : Type 1}} → statement M', f'{spec} = tie.close (tie.spec {d}-requires {"same-length " * leaves}returns)', '']
         os.makedirs(f'crates/ctrack/proofs/{self.name}', exist_ok=True)
         open(f'crates/ctrack/proofs/{self.name}/Proof.antt', 'w').write('\n'.join(out))
 

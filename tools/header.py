@@ -102,7 +102,8 @@ def numbers(lib):
             '10 the list is not sorted, its first time is below 0, or a gap (the first from time 0) is above 268,435,455',
             '11 a kind that is not written, or a field outside its MIDI width, which is 0 to 16,383 for a bend', '12 the output is too short',
             '13 not a track chunk, or its length is not that of the bytes behind it',
-            '14 an event that is cut short or faulty', '15 no end of track behind the last event, or bytes behind it']
+            '14 an event that is cut short or faulty', '15 no end of track behind the last event, or bytes behind it',
+            '17 events on more than one channel', '18 a time below 0']
 
 
 ABOUT = ['What a function answers as a 32-bit number is one of this table; where it is not 0, all that is lent is as it was:']

@@ -18,7 +18,7 @@ PAGE, START, END = 'docs/PROOFS.md', '<!-- written by tools/theorems.py -->', '<
 PROOFS = 'crates/track/proofs'
 WORD = r"[^\s(){}⟨⟩⌜⌝,;:.λ→×≡]+"
 OWN = {'NoteParam': 'OfParam', 'Layers': 'OfLayers', 'Event': 'OfEvents', 'Track': 'OfTrack'}  # the record of a type's methods
-PLAIN = {'code', 'value', 'bytes'}  # fields of an answer that leaves nothing
+PLAIN = {'code', 'value', 'bytes', 'yes'}  # fields of an answer that leaves nothing
 
 
 def read(path):

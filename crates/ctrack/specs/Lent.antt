@@ -17,6 +17,7 @@ use Rattle.cycling.specs.declared.Cycled.{Cycled}
 use Rattle.cutting.specs.declared.CcValue.{CcValue}
 use Rattle.eventlist.specs.declared.Taken.{Taken}
 use Rattle.chunks.specs.declared.Chunk.{Chunk}
+use Rattle.profile.specs.declared.ProfileAnswer.{ProfileAnswer}
 use Rattle.playing.specs.declared.TrackValue.{TrackValue}
 use Rattle.playing.specs.declared.TrackVelocity.{TrackVelocity}
 use Rattle.events.specs.declared.Size.{Size}
@@ -84,6 +85,11 @@ pub record ChunkLeft (a : Chunk) (l : List ℕ) (r : ℕ) (n : ℕ) (m : List �
   pub code : r ≡ a .code
   pub bytes : n ≡ a .bytes
   pub output : m ≡ l
+
+-- the check of a list: the number r, and k, 1 for yes and 0 for no
+pub record ProfileTold (a : ProfileAnswer) (r : ℕ) (k : ℕ) : Type 0 where
+  pub code : r ≡ a .code
+  pub yes : k ≡ a .yes
 
 -- the same with the value v
 pub record ValueLeft (a : TrackValue) (r : ℕ) (v : ℤ) (t : Track) : Type 0 where

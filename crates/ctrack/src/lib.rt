@@ -26,6 +26,7 @@ ghost use Rattle.notes.specs.Notes.{splitTaken, splitLeft};
 ghost use Rattle.cutting.specs.Cuts.{cutTaken, cutLeft, plain, whole};
 ghost use Rattle.chunks.specs.Writing.{chunkWritten, chunkLeft};
 ghost use Rattle.reader.specs.Reading.{readTaken, readLeft};
+ghost use Rattle.profile.specs.Calls.{checkAnswer, fitTaken, fitLeft};
 ghost use Rattle.playing.specs.Which.{velocity, timing, gate, octave, span, paramOf};
 ghost use Rattle.playing.specs.Calls.{valueOnTime, valueOnNote, onLayers, summedUp, onParam};
 ghost use Rattle.layers.specs.Calls.{setVSub, setVSubRandom, setVSubOnTime, setVSubOnCycle, setVSubOnNote, applyVSub};
@@ -35,7 +36,7 @@ ghost use Rattle.layers.specs.Layers.{oneLayer};
 ghost use Rattle.reserved.specs.Cycle.{calcOf, said};
 ghost use Rattle.ctrack.specs.Kinds.{toldOf};
 ghost use Rattle.sines.specs.Kinds.{numberOf, sineType};
-ghost use Rattle.ctrack.specs.Lent.{TrackLeft, OptionTold, Written, Reserved, NoteWritten, CycleWritten, CcTold, ListLeft, ChunkLeft, ValueLeft, VelocityLeft, SizeTold, ParamLeft, ParamTold, ParamTaken, LayersLeft, LayersSum, TimeTold};
+ghost use Rattle.ctrack.specs.Lent.{TrackLeft, OptionTold, Written, Reserved, NoteWritten, CycleWritten, CcTold, ListLeft, ChunkLeft, ProfileTold, ValueLeft, VelocityLeft, SizeTold, ParamLeft, ParamTold, ParamTaken, LayersLeft, LayersSum, TimeTold};
 use budget::Budget;
 use budget::BudgetAnswer;
 use cutting::CcValue;
@@ -1039,6 +1040,40 @@ pub extern "C" fn dollavir_read_chunk(chunk: &[u8], events: &mut [i64], count: &
         r (now (count .exit)) (now (events .exit)) ⌝ }
 {
     let r = reader::read_chunk(chunk, events, *count);
+    *count = r.count;
+    r.code
+}
+
+// ---- the rehearsal player's profile
+// Leaves in `yes` whether the rehearsal player accepts the list: 1 where its controllers are 1, 7, 10, 11 and 64
+// only, at most one of each at a time, its bends 0 to 16,383, all its events but Meta, SysEx and DirectSMF on one
+// channel, and its times from 0 on and never falling; else 0, as where it refuses. Refuses 1, 4.
+#[no_mangle]
+pub extern "C" fn dollavir_check_profile(
+    events: &[i64],
+    count: usize,
+    store: &[u8],
+    yes: &mut u32,
+) -> u32
+    ensures { λ r. ⌜ ProfileTold (checkAnswer (length (now (store .entry))) (now (events .entry)) count) r (now (yes .exit)) ⌝ }
+{
+    let r = profile::check_profile(events, count, store);
+    *yes = r.yes;
+    r.code
+}
+
+// Fits the list to the rehearsal player: sorts it by time, events of one time in their order, and drops controllers
+// but 1, 7, 10, 11 and 64, bends outside 0 to 16,383, and of a controller's events at one time all but the last.
+// Leaves the new count in `count`; the places that fall vacant are zeroed. Refuses 1, 4, then 17 more than one
+// channel (Meta, SysEx and DirectSMF not counted), then 18 a time below 0, each asked of the list handed in; then the
+// list and the count are left as they are.
+#[no_mangle]
+pub extern "C" fn dollavir_fit_profile(events: &mut [i64], count: &mut usize, store: &[u8]) -> u32
+    ensures { λ r. ⌜ ListLeft (fitTaken (length (now (store .entry))) (now (events .entry)) (now (count .entry)))
+        (fitLeft (length (now (store .entry))) (now (events .entry)) (now (count .entry)))
+        r (now (count .exit)) (now (events .exit)) ⌝ }
+{
+    let r = profile::fit_profile(events, *count, store);
     *count = r.count;
     r.code
 }

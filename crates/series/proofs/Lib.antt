@@ -7,3 +7,4 @@ pub mod Linked
 pub mod Cut
 pub mod Loop
 pub mod Chunk
+pub mod Profile

@@ -26,6 +26,7 @@ use Rattle.eventlist.specs.Bends.{bendsRefusal}
 use Rattle.sorting.specs.Sorting.{sortRefusal}
 use Rattle.chunks.specs.Writing.{unwritten, chunkRefusal}
 use Rattle.reader.specs.Reading.{unread, readRefusal}
+use Rattle.profile.specs.Calls.{unfitted, checkRefusal, fitRefusal}
 use Rattle.notes.specs.Notes.{splitRefusal}
 use Rattle.cutting.specs.declared.Cut.{Cut}
 use Rattle.cutting.specs.Cuts.{plain, whole, fitsCut, cutRefusal}
@@ -76,7 +77,7 @@ use Rattle.reserving.specs.Old.{normal, aloneRefusal, removeCcOnNote, removeCcO
 use Rattle.reserving.proofs.Answering as answering
 use Rattle.track.specs.Reading.{ccTrackRefusal, ccOfTrack}
 use Rattle.track.specs.Series.{Held, Sound, Call, afterAll}
-use Rattle.track.specs.Series.{set-timepos, set-channel, set-cc-on-time-freq, set-pb-on-time-freq, calc-v-on-time, calc-t-on-time, calc-qlen-on-time, calc-o-on-time, calc-l-on-time, calc-v-on-note, calc-t-on-note, calc-qlen-on-note, calc-o-on-note, calc-l-on-note, set-v-sub, set-v-sub-random, set-v-sub-on-time, set-v-sub-on-cycle, set-v-sub-on-note, apply-v-sub, set-param-on-time, set-param-on-cycle, set-param-on-note, clear-param-reserve, set-param-random, set-param-range, clear-param-range, set-param-delay, set-param-max, clear-param-max, set-param-repeat, set-delay, set-random, set-range, clear-range, set-repeat, remove-cc-on-note, remove-cc-on-note-wave, get-write-opt, remove-reserve, set-on-note, set-on-note-wave, set-on-note-sine, set-on-cycle, remove-cc-on, set-cc-on-note, set-cc-on-note-wave, set-pb-on-note-wave, remove-pb-on-note-wave, write-on-time, write-cc-on-time, write-pb-on-time, write-sine, write-cc-on-note, write-cc-on-note-wave, write-cc-on-cycle, remove-pitch-bend-in-range, normalize, play-from, full-cut, events-sort, split-note-off, current-cc-value, write-chunk, read-chunk}
+use Rattle.track.specs.Series.{set-timepos, set-channel, set-cc-on-time-freq, set-pb-on-time-freq, calc-v-on-time, calc-t-on-time, calc-qlen-on-time, calc-o-on-time, calc-l-on-time, calc-v-on-note, calc-t-on-note, calc-qlen-on-note, calc-o-on-note, calc-l-on-note, set-v-sub, set-v-sub-random, set-v-sub-on-time, set-v-sub-on-cycle, set-v-sub-on-note, apply-v-sub, set-param-on-time, set-param-on-cycle, set-param-on-note, clear-param-reserve, set-param-random, set-param-range, clear-param-range, set-param-delay, set-param-max, clear-param-max, set-param-repeat, set-delay, set-random, set-range, clear-range, set-repeat, remove-cc-on-note, remove-cc-on-note-wave, get-write-opt, remove-reserve, set-on-note, set-on-note-wave, set-on-note-sine, set-on-cycle, remove-cc-on, set-cc-on-note, set-cc-on-note-wave, set-pb-on-note-wave, remove-pb-on-note-wave, write-on-time, write-cc-on-time, write-pb-on-time, write-sine, write-cc-on-note, write-cc-on-note-wave, write-cc-on-cycle, remove-pitch-bend-in-range, normalize, play-from, full-cut, events-sort, split-note-off, current-cc-value, write-chunk, read-chunk, check-profile, fit-profile}
 use Rattle.track.specs.Numbers.{numberOf, own, targeted, reserved, drawn, timed, split, stays}
 use Rattle.track.proofs.Series.{made, made-stays-sound}
 
@@ -341,6 +342,14 @@ module _ (h : Held) (s : Sound h) where
   unfolding readRefusal
   read-code c = rw (s .list)
 
+  check-code : checkRefusal (h .store) (h .list) (h .count) ≡ 0
+  unfolding checkRefusal
+  check-code = rw (s .list, s .events)
+
+  fit-code : fitRefusal (h .store) (h .list) (h .count) ≡ unfitted (eventsOf (h .list) (h .count))
+  unfolding fitRefusal
+  fit-code = rw (s .list, s .events)
+
   normal-code : splitRefusal (h .store) (h .list) (h .count) (length (h .list)) ≡ split (h .list) (h .count) (h .list)
   normal-code = split-code (h .list) ∙ ap (λ (t : Bool). cond t (split (h .list) (h .count) (h .list)) 1) whole-list
 
@@ -415,6 +424,8 @@ asks-alone (split-note-off out) h s = split-code h s out
 asks-alone (current-cc-value x) h s = cc-code h s x
 asks-alone (write-chunk out) h s = chunk-code h s out
 asks-alone (read-chunk c) h s = read-code h s c
+asks-alone check-profile h s = check-code h s
+asks-alone fit-profile h s = fit-code h s
 
 -- ---- from the makers on, after any series of calls
 pub made-asks-alone : (timebase channel : ℤ) (cs : List Cycle) (seed maximum : ℕ) (l : List ℤ) (store : ℕ)

@@ -31,6 +31,7 @@ use Rattle.eventlist.proofs as eventlist
 use Rattle.sorting.proofs as sorting
 use Rattle.chunks.proofs as chunks
 use Rattle.reader.proofs as reader
+use Rattle.profile.proofs as profile
 use Rattle.notes.proofs as notes
 use Rattle.cutting.proofs as cutting
 use Rattle.sines.proofs as sines
@@ -320,6 +321,8 @@ module _ {M : Type 1} (𝓤 : URA M) (H : Heap 𝓤) (A : Atoms 𝓤) (mem : Mem
     pub normalize : Once 𝓤 H A notes.normalize.ended (notes.normalize.clauses 𝓤 H A mem run) (notes.normalize.spec 𝓤 H A mem run)
     pub play-from : Once 𝓤 H A cutting.play_from.ended (cutting.play_from.clauses 𝓤 H A mem run) (cutting.play_from.spec 𝓤 H A mem run)
     pub full-cut : Once 𝓤 H A cutting.full_cut.ended (cutting.full_cut.clauses 𝓤 H A mem run) (cutting.full_cut.spec 𝓤 H A mem run)
+    pub check-profile : Once 𝓤 H A profile.check_profile.ended (profile.check_profile.clauses 𝓤 H A mem run) (profile.check_profile.spec 𝓤 H A mem run)
+    pub fit-profile : Once 𝓤 H A profile.fit_profile.ended (profile.fit_profile.clauses 𝓤 H A mem run) (profile.fit_profile.spec 𝓤 H A mem run)
     pub read-chunk : Once 𝓤 H A reader.read_chunk.ended (reader.read_chunk.clauses 𝓤 H A mem run) (reader.read_chunk.spec 𝓤 H A mem run)
     pub write-chunk : Once 𝓤 H A chunks.write_chunk.ended (chunks.write_chunk.clauses 𝓤 H A mem run) (chunks.write_chunk.spec 𝓤 H A mem run)
     pub current-cc-value : Once 𝓤 H A own.current_cc_value.ended (own.current_cc_value.clauses 𝓤 H A mem run) (own.current_cc_value.spec 𝓤 H A mem run)
@@ -333,6 +336,8 @@ module _ {M : Type 1} (𝓤 : URA M) (H : Heap 𝓤) (A : Atoms 𝓤) (mem : Mem
         normalize = record { met = refl; once = λ o. facts 𝓤 _ _ _ (λ p q. (agree (p .0) (q .0), ap (λ (l : List ℤ). (l, (tt, (tt, tt)))) (agree (p .1) (q .1)))) };
         play-from = record { met = refl; once = λ o. facts 𝓤 _ _ _ (λ p q. (agree (p .0) (q .0), ap (λ (l : List ℤ). (l, (tt, (tt, (tt, tt))))) (agree (p .1) (q .1)))) };
         full-cut = record { met = refl; once = λ o. facts 𝓤 _ _ _ (λ p q. (agree (p .0) (q .0), ap (λ (l : List ℤ). (l, (tt, (tt, (tt, tt))))) (agree (p .1) (q .1)))) };
+        check-profile = record { met = refl; once = λ o. same 𝓤 _ _ _ _ _ refl };
+        fit-profile = record { met = refl; once = λ o. facts 𝓤 _ _ _ (λ p q. (agree (p .0) (q .0), ap (λ (l : List ℤ). (l, (tt, (tt, tt)))) (agree (p .1) (q .1)))) };
         read-chunk = record { met = refl; once = λ o. facts 𝓤 _ _ _ (λ p q. (agree (p .0) (q .0), ap (λ (l : List ℤ). (tt, (l, (tt, tt)))) (agree (p .1) (q .1)))) };
         write-chunk = record { met = refl; once = λ o. facts 𝓤 _ _ _ (λ p q. (agree (p .0) (q .0), ap (λ (l : List ℕ). (tt, (tt, (tt, (l, tt))))) (agree (p .1) (q .1)))) };
         current-cc-value = record { met = refl; once = λ o. same 𝓤 _ _ _ _ _ refl };

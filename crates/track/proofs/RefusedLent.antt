@@ -21,6 +21,8 @@ use Rattle.sorting.specs.Sorting.{sortRefusal, sortLeft}
 use Rattle.chunks.specs.declared.Chunk.{Chunk}
 use Rattle.chunks.specs.Writing.{chunkRefusal, refusedChunk, chunkWritten, chunkLeft}
 use Rattle.reader.specs.Reading.{readTaken, readLeft}
+use Rattle.profile.specs.declared.ProfileAnswer.{ProfileAnswer}
+use Rattle.profile.specs.Calls.{checkAnswer, fitTaken, fitLeft}
 use Rattle.notes.specs.Notes.{splitTaken, splitLeft}
 use Rattle.cutting.specs.declared.CcValue.{CcValue}
 use Rattle.cutting.specs.Cuts.{plain, whole, cutTaken, cutLeft}
@@ -86,6 +88,9 @@ ChunkKept out = BothUnchanged (λ (r : Chunk). r .code) refusedChunk out
 abbrev pub NoValue : CcValue → Type 0
 NoValue = Unchanged (λ (r : CcValue). r .code) (λ n. record { code = n; value = pos 0 })
 
+abbrev pub NoYes : ProfileAnswer → Type 0
+NoYes = Unchanged (λ (r : ProfileAnswer). r .code) (λ n. record { code = n; yes = 0 })
+
 -- ---- the event list
 taken-kept : (n k count : ℕ) (m l : List ℤ) → TakenKept count l (record { code = n; count = cond (eqb n 0) k count }) (cond (eqb n 0) m l)
 taken-kept n k count m l h = let e = ne-eqb n 0 h in record { answer = rw e; list = rw e }
@@ -98,6 +103,8 @@ pub record OfList (store : ℕ) (l : List ℤ) (count : ℕ) : Type 0 where
   pub play-from : (cut : ℤ) → TakenKept count l (cutTaken store l count (plain cut)) (cutLeft store l count (plain cut))
   pub full-cut : (cut : ℤ) → TakenKept count l (cutTaken store l count (whole cut)) (cutLeft store l count (whole cut))
   pub current-cc-value : (a : Track) (number : ℤ) → NoValue (ccOfTrack store a number l count)
+  pub check-profile : NoYes (checkAnswer store l count)
+  pub fit-profile : TakenKept count l (fitTaken store l count) (fitLeft store l count)
   pub read-chunk : (c : List ℕ) → TakenKept count l (readTaken c l count) (readLeft c l count)
   pub write-chunk : (out : List ℕ) → ChunkKept out (chunkWritten store l count (length out)) (chunkLeft store l count out)
 
@@ -112,6 +119,8 @@ of-list store l count =
       play-from = λ cut. taken-kept _ _ count _ l;
       full-cut = λ cut. taken-kept _ _ count _ l;
       current-cc-value = λ a number h. rw (ne-eqb _ 0 h);
+      check-profile = λ h. rw (ne-eqb _ 0 h);
+      fit-profile = taken-kept _ _ count _ l;
       read-chunk = λ c. taken-kept _ _ count _ l;
       write-chunk = λ out h. let e = ne-eqb (chunkRefusal store l count (length out)) 0 h in record { answer = rw e; list = rw e };
     }

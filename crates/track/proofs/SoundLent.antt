@@ -33,6 +33,8 @@ use Rattle.notes.specs.Notes.{splitRefusal, splitTaken, splitLeft}
 use Rattle.notes.proofs.Sound.{split-note-off-sound, normalize-sound}
 use Rattle.reader.specs.Reading.{readRefusal, readTaken, readLeft}
 use Rattle.reader.proofs.Calls.{read-sound}
+use Rattle.profile.specs.Calls.{fitRefusal, fitTaken, fitLeft}
+use Rattle.profile.proofs.Sound.{fit-sound}
 use Rattle.cutting.specs.Cuts.{plain, whole, cutRefusal, cutTaken, cutLeft}
 use Rattle.cutting.proofs.Sound.{cut-sound}
 use Rattle.layers.specs.declared.Layers.{Layers}
@@ -114,6 +116,7 @@ pub record OfList (store : ℕ) (l : List ℤ) (count : ℕ) : Type 0 where
   pub normalize : SoundList store (splitLeft store l count l count) (splitTaken store l count l .count)
   pub play-from : (cut : ℤ) → SoundList store (cutLeft store l count (plain cut)) (cutTaken store l count (plain cut) .count)
   pub full-cut : (cut : ℤ) → SoundList store (cutLeft store l count (whole cut)) (cutTaken store l count (whole cut) .count)
+  pub fit-profile : SoundList store (fitLeft store l count) (fitTaken store l count .count)
   pub read-chunk : (c : List ℕ) → SoundList store (readLeft c l count) (readTaken c l count .count)
 
 pub of-list : (store : ℕ) (l : List ℤ) (count : ℕ) → SoundList store l count → OfList store l count
@@ -125,6 +128,7 @@ of-list store l count s =
       normalize = by-number store l count s (splitRefusal store l count (length l)) _ _ (normalize-sound store l count);
       play-from = λ cut. by-number store l count s (cutRefusal store l count (plain cut)) _ _ (cut-sound store l count (plain cut));
       full-cut = λ cut. by-number store l count s (cutRefusal store l count (whole cut)) _ _ (cut-sound store l count (whole cut));
+      fit-profile = by-number store l count s (fitRefusal store l count) _ _ (fit-sound store l count);
       read-chunk = λ c. by-number store l count s (readRefusal c l count) _ _ (read-sound store c l count);
     }
 

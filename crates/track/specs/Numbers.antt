@@ -1,6 +1,7 @@
 -- 01, "Numbers that come back": the number that each call of a series answers, and what is left of it where what is held passes the tests of 1 and 4
 -- (`Sound` in Series). Then 1 and 4 are given for the call's own arguments, or for an event time that would result, and for nothing that the library made.
--- 10 and 11, of `write-chunk`, are asked of the list as it stands; 13, 14, 15 and 4, of `read-chunk`, of the chunk that is handed in.
+-- 10 and 11, of `write-chunk`, are asked of the list as it stands; 13, 14, 15 and 4, of `read-chunk`, of the chunk that is handed in; 17 and 18, of
+-- `fit-profile`, of the list as it stands.
 use mathlib.Core.Bool.{Bool, true, cond, not, _&&_, _||_}
 use mathlib.Core.List.{List}
 use Prim.Native.Nat.{ℕ, _/_, _%_}
@@ -17,6 +18,7 @@ use Rattle.eventlist.specs.Bends.{bendsTaken}
 use Rattle.sorting.specs.Sorting.{sortRefusal}
 use Rattle.chunks.specs.Writing.{unwritten, chunkWritten}
 use Rattle.reader.specs.Reading.{unread, readTaken}
+use Rattle.profile.specs.Calls.{unfitted, checkRefusal, fitTaken}
 use Rattle.notes.specs.Notes.{splitNotes, okEnd, splitTaken}
 use Rattle.cutting.specs.declared.Cut.{Cut}
 use Rattle.cutting.specs.Cuts.{keeps, shifted, plain, whole, cutTaken}
@@ -40,7 +42,7 @@ use Rattle.reserving.specs.Setting.{isShort, waveOf, noteRoom, waveRoom, sineRo
 use Rattle.reserving.specs.Old.{normal, removeCcOn, setCcOnNote, setCcOnNoteWave, setPbOnNoteWave, removePbOnNoteWave, removeCcOnNote, removeCcOnNoteWave}
 use Rattle.track.specs.Reading.{ccOfTrack}
 use Rattle.track.specs.Series.{Held, Call}
-use Rattle.track.specs.Series.{set-timepos, set-channel, set-cc-on-time-freq, set-pb-on-time-freq, calc-v-on-time, calc-t-on-time, calc-qlen-on-time, calc-o-on-time, calc-l-on-time, calc-v-on-note, calc-t-on-note, calc-qlen-on-note, calc-o-on-note, calc-l-on-note, set-v-sub, set-v-sub-random, set-v-sub-on-time, set-v-sub-on-cycle, set-v-sub-on-note, apply-v-sub, set-param-on-time, set-param-on-cycle, set-param-on-note, clear-param-reserve, set-param-random, set-param-range, clear-param-range, set-param-delay, set-param-max, clear-param-max, set-param-repeat, set-delay, set-random, set-range, clear-range, set-repeat, remove-cc-on-note, remove-cc-on-note-wave, get-write-opt, remove-reserve, set-on-note, set-on-note-wave, set-on-note-sine, set-on-cycle, remove-cc-on, set-cc-on-note, set-cc-on-note-wave, set-pb-on-note-wave, remove-pb-on-note-wave, write-on-time, write-cc-on-time, write-pb-on-time, write-sine, write-cc-on-note, write-cc-on-note-wave, write-cc-on-cycle, remove-pitch-bend-in-range, normalize, play-from, full-cut, events-sort, split-note-off, current-cc-value, write-chunk, read-chunk}
+use Rattle.track.specs.Series.{set-timepos, set-channel, set-cc-on-time-freq, set-pb-on-time-freq, calc-v-on-time, calc-t-on-time, calc-qlen-on-time, calc-o-on-time, calc-l-on-time, calc-v-on-note, calc-t-on-note, calc-qlen-on-note, calc-o-on-note, calc-l-on-note, set-v-sub, set-v-sub-random, set-v-sub-on-time, set-v-sub-on-cycle, set-v-sub-on-note, apply-v-sub, set-param-on-time, set-param-on-cycle, set-param-on-note, clear-param-reserve, set-param-random, set-param-range, clear-param-range, set-param-delay, set-param-max, clear-param-max, set-param-repeat, set-delay, set-random, set-range, clear-range, set-repeat, remove-cc-on-note, remove-cc-on-note-wave, get-write-opt, remove-reserve, set-on-note, set-on-note-wave, set-on-note-sine, set-on-cycle, remove-cc-on, set-cc-on-note, set-cc-on-note-wave, set-pb-on-note-wave, remove-pb-on-note-wave, write-on-time, write-cc-on-time, write-pb-on-time, write-sine, write-cc-on-note, write-cc-on-note-wave, write-cc-on-cycle, remove-pitch-bend-in-range, normalize, play-from, full-cut, events-sort, split-note-off, current-cc-value, write-chunk, read-chunk, check-profile, fit-profile}
 
 -- ---- the number that a call answers
 unfoldable pub numberOf : Call → Held → ℕ
@@ -109,6 +111,8 @@ numberOf (split-note-off out) h = splitTaken (h .store) (h .list) (h .count) out
 numberOf (current-cc-value x) h = ccOfTrack (h .store) (h .track) x (h .list) (h .count) .code
 numberOf (write-chunk out) h = chunkWritten (h .store) (h .list) (h .count) (length out) .code
 numberOf (read-chunk c) h = readTaken c (h .list) (h .count) .code
+numberOf check-profile h = checkRefusal (h .store) (h .list) (h .count)
+numberOf fit-profile h = fitTaken (h .store) (h .list) (h .count) .code
 
 -- ---- the same, where what is held passes 1 and 4: 2, 3 and 4 ask the arguments alone, or a time that would result; 5, 6 and 7 ask for room
 abbrev pub targeted : ℤ → Bool → ℕ
@@ -196,3 +200,5 @@ own (split-note-off out) h = cond (eqb (length out % recordWidth) 0) (split (h .
 own (current-cc-value x) h = cond (isController x) 0 2
 own (write-chunk out) h = unwritten (eventsOf (h .list) (h .count)) (length out)
 own (read-chunk c) h = unread c (length (rowsOf (h .list)))
+own check-profile h = 0
+own fit-profile h = unfitted (eventsOf (h .list) (h .count))

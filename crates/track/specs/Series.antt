@@ -1,6 +1,6 @@
 -- A product holds a track, sixteen cycle records, a budget and an event list, with a store of bytes that is never written, and makes one call after the
 -- other, each on what the one before left. Here: what is held, what 1 and 4 ask of it, every public call over it, and what a call leaves.
--- A call that is refused leaves what was held, as its definition says; a call that only asks (`get-write-opt`, `current-cc-value`) leaves it too, and so does
+-- A call that is refused leaves what was held, as its definition says; a call that only asks (`get-write-opt`, `current-cc-value`, `check-profile`) leaves it too, and so does
 -- `write-chunk`, whose output is no part of it.
 use mathlib.Core.Path.{_≡_}
 use mathlib.Core.Bool.{true, cond}
@@ -18,6 +18,7 @@ use Rattle.eventlist.specs.Bends.{bendsTaken, bendsLeft}
 use Rattle.sorting.specs.Sorting.{sortLeft}
 use Rattle.notes.specs.Notes.{splitTaken, splitLeft}
 use Rattle.reader.specs.Reading.{readTaken, readLeft}
+use Rattle.profile.specs.Calls.{fitTaken, fitLeft}
 use Rattle.cutting.specs.Cuts.{plain, whole, cutTaken, cutLeft}
 use Rattle.params.specs.Calls as params
 use Rattle.layers.specs.Calls as layers
@@ -121,6 +122,8 @@ pub data Call : Type 0 where
   current-cc-value : ℤ → Call
   write-chunk : List ℕ → Call
   read-chunk : List ℕ → Call
+  check-profile : Call
+  fit-profile : Call
 
 -- ---- what it leaves
 module _ (h : Held) where
@@ -212,6 +215,8 @@ after (split-note-off out) h =
 after (current-cc-value number) h = h
 after (write-chunk out) h = h
 after (read-chunk c) h = withList h (readLeft c (h .list) (h .count)) (readTaken c (h .list) (h .count) .count)
+after check-profile h = h
+after fit-profile h = withList h (fitLeft (h .store) (h .list) (h .count)) (fitTaken (h .store) (h .list) (h .count) .count)
 
 unfoldable pub afterAll : List Call → Held → Held
 afterAll [] h = h

@@ -98,6 +98,9 @@ pub use eventlist::Taken;
 pub use eventlist::remove_pitch_bend_in_range;
 pub use notes::normalize;
 pub use notes::split_note_off;
+pub use profile::ProfileAnswer;
+pub use profile::check_profile;
+pub use profile::fit_profile;
 pub use reader::read_chunk;
 pub use sorting::events_sort;
 
