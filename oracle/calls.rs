@@ -7,7 +7,7 @@ use crate::original::*;
 use crate::rules;
 use crate::script::Step;
 use crate::sine::{write_sine, Quarter};
-use crate::{poke, private, smf, table};
+use crate::{poke, private, profile, smf, table};
 
 /// What a call answers; `result` is the list of `split_note_off`, `bytes` the output of `write_chunk` after it.
 #[derive(Default)]
@@ -186,13 +186,20 @@ fn listed(desk: &mut Desk, op: i64, a: &[i64], list: &[i64]) -> Reply {
             let made = smf::write_chunk(&desk.list, &mut bytes);
             Reply { bytes, ..made.map_or_else(refused, |length| answer(&[length as i64])) }
         }
-        _ => match smf::read_chunk(&bytes(list), desk.room) {
-            Ok(events) => {
-                desk.list = events;
-                answer(&[desk.list.len() as i64])
-            }
-            Err(code) => refused(code),
-        },
+        312 => replaced(desk, smf::read_chunk(&bytes(list), desk.room)),
+        313 => answer(&[i64::from(profile::passes(&desk.list))]),
+        _ => replaced(desk, profile::fit(&desk.list)),
+    }
+}
+
+/// The list is another one, and the call answers its count; or it is refused.
+fn replaced(desk: &mut Desk, made: Result<Vec<Record>, i64>) -> Reply {
+    match made {
+        Ok(events) => {
+            desk.list = events;
+            answer(&[desk.list.len() as i64])
+        }
+        Err(code) => refused(code),
     }
 }
 

@@ -1,4 +1,4 @@
-// Document 01's cases, "Both sides of a line", with request c)'s limit for lists, and request a)'s of the full cut, asked of the original, and requests b)'s and e)'s of the track chunk, asked of smf.rs: each is a short script in text, and lines that its last call must print in full mode. And the sines,
+// Document 01's cases, "Both sides of a line", with request c)'s limit for lists, and request a)'s of the full cut, asked of the original, requests b)'s and e)'s of the track chunk, asked of smf.rs, and request j)'s of the rehearsal player, asked of profile.rs: each is a short script in text, and lines that its last call must print in full mode. And the sines,
 // whose values document 01 takes from a table of its own: how far the original's stand from it.
 
 use crate::calls;
@@ -31,6 +31,7 @@ fn cases() -> Vec<Case> {
     let two = "904 2 0 0 7 90 0 0 0; 904 2 10 0 7 100 0 0 0";
     let first_voice = "904 2 6 3 7 100 0 0 0; 904 5 6 3 41 0 0 0 0; 904 3 7 3 9000 0 0 0 0; 904 2 8 4 10 64 0 0 0";
     let merged = format!("{first_voice}; 904 2 0 1 7 90 0 0 0; 904 5 0 1 40 0 0 0 0; 904 3 2 2 8192 0 0 0 0");
+    let five = [1, 7, 10, 11, 64].map(|number| format!("904 2 5 3 {number} 0 0 0 0")).join("; ");
     vec![
         case("Seed 1 steps to 270369; value 64, random 10 gives 68", "202 1 64 10", &["202 0 68 270369"]),
         case("Seed 0 stays 0; value 64, random 10 gives 59", "202 0 64 10", &["202 0 59 0"]),
@@ -124,6 +125,25 @@ fn cases() -> Vec<Case> {
         case("02, e): no status runs behind a text: 14", "312 23 77 84 114 107 0 0 0 15 0 144 60 100 0 255 1 0 0 60 0 0 255 47 0", &["312 14", "E 0"]),
         case("02, e): two events, room for one, and no end of track: 15", "902 96 0 1; 312 15 77 84 114 107 0 0 0 7 0 144 60 100 0 60 0", &["312 15", "E 0"]),
         case("02, e): with an end of track: 7", "902 96 0 1; 312 19 77 84 114 107 0 0 0 11 0 144 60 100 0 60 0 0 255 47 0", &["312 7", "E 0"]),
+        case(
+            "02, j): controllers 1, 7, 10, 11 and 64 at one time, bends 0 and 16,383, a Meta on another channel: passes",
+            &format!("{five}; 904 3 5 3 0 0 0 0 0; 904 3 5 3 16383 0 0 0 0; 904 6 5 9 81 0 0 0 3; 313"),
+            &["313 0 1"],
+        ),
+        case("02, j): fitting it changes nothing", &format!("{five}; 314"), &["314 0 5", "E 5 2 5 3 1 0 0 0 2 5 3 7 0 0 0 2 5 3 10 0 0 0 2 5 3 11 0 0 0 2 5 3 64 0 0 0"]),
+        case("02, j): an empty list passes", "313", &["313 0 1"]),
+        case("02, j): controller 2 does not", "904 2 0 0 2 0 0 0 0; 313", &["313 0 0"]),
+        case("02, j): nor a bend of 16,384", "904 3 0 0 16384 0 0 0 0; 313", &["313 0 0"]),
+        case("02, j): nor a time that falls", "904 0 1 0 60 48 100 0 0; 904 0 0 0 60 48 100 0 0; 313", &["313 0 0"]),
+        case("02, j): nor one controller twice at one time, a note between", "904 2 4 0 7 90 0 0 0; 904 0 4 0 60 48 100 0 0; 904 2 4 0 7 90 0 0 0; 313", &["313 0 0"]),
+        case(
+            "02, j): of volume at 4 the last by the sort stays, of volume at 5 the only one; controller 2 and the bend of 16,384 go, the note stays",
+            "904 2 5 0 7 50 0 0 0; 904 2 4 0 7 41 0 0 0; 904 0 4 0 60 48 100 0 0; 904 2 4 0 2 1 0 0 0; 904 3 4 0 16384 0 0 0 0; 904 2 4 0 7 42 0 0 0; 314",
+            &["314 0 3", "E 3 0 4 0 60 48 100 0 2 4 0 7 42 0 0 2 5 0 7 50 0 0"],
+        ),
+        case("02, j): a second channel, of a controller that would go, and a time below 0: 17", "904 0 -1 0 60 48 100 0 0; 904 2 0 1 2 0 0 0 0; 314", &["314 17"]),
+        case("02, j): a Meta's channel does not count, but its time does: 18", "904 6 -1 9 81 0 0 0 3; 904 0 0 0 60 48 100 0 0; 314", &["314 18"]),
+        case("02, j): a bend range has a channel: 17", "904 4 0 1 12 0 0 0 0; 904 0 0 0 60 48 100 0 0; 314", &["314 17"]),
         case("192 numbers accepted", &format!("607 7 {}", ones(LIST_LIMIT)), &["607 0"]),
         case("193 give 3", &format!("607 7 {}", ones(LIST_LIMIT + 1)), &["607 3"]),
         case("96 numbers accepted as before", &format!("607 7 {}", ones(FORMER_LIMIT)), &["607 0"]),

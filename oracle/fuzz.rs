@@ -34,10 +34,10 @@ struct Case {
 
 /// What a call answers, and the numbers afterwards.
 #[derive(PartialEq)]
-struct Left {
-    code: i64,
-    count: usize,
-    numbers: Vec<i64>,
+pub struct Left {
+    pub code: i64,
+    pub count: usize,
+    pub numbers: Vec<i64>,
 }
 
 #[derive(Default)]

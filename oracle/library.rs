@@ -128,8 +128,23 @@ unsafe fn listed(desk: &mut Other, op: i64, a: &[i64]) -> Reply {
         308 => lent(desk, |it| dollavir_events_sort(it.events, it.long, *it.count, it.store, it.bytes)),
         309 => lent(desk, |it| dollavir_play_from(it.events, it.long, it.count, a[0], it.store, it.bytes)),
         310 => lent(desk, |it| dollavir_full_cut(it.events, it.long, it.count, a[0], it.store, it.bytes)),
-        _ => chunk(desk, a[0]),
+        311 => chunk(desk, a[0]),
+        313 => {
+            let mut yes = 77;
+            let made = lent(desk, |it| dollavir_check_profile(it.events, it.long, *it.count, it.store, it.bytes, &mut yes));
+            reply(made.code as u32, &[i64::from(yes)])
+        }
+        _ => {
+            let made = lent(desk, |it| dollavir_fit_profile(it.events, it.long, it.count, it.store, it.bytes));
+            replaced(desk, made)
+        }
     }
+}
+
+/// What a call answers that leaves another list: its count.
+fn replaced(desk: &Other, made: Reply) -> Reply {
+    let count = if made.code == 0 { desk.count } else { 0 };
+    reply(made.code as u32, &[count as i64])
 }
 
 /// The output stands in front of some bytes that are not lent.
@@ -144,8 +159,7 @@ unsafe fn chunk(desk: &mut Other, room: i64) -> Reply {
 
 unsafe fn read(desk: &mut Other, chunk: &[u8]) -> Reply {
     let made = lent(desk, |it| dollavir_read_chunk(chunk.as_ptr(), chunk.len(), it.events, it.long, it.count));
-    let count = if made.code == 0 { desk.count } else { 0 };
-    reply(made.code as u32, &[count as i64])
+    replaced(desk, made)
 }
 
 unsafe fn parameter(desk: &mut Other, op: i64, a: &[i64], list: &[i32]) -> Reply {

@@ -1,4 +1,4 @@
-// Every call of some families at its limits: lent what is spoilt, handed each argument past its range, as it should be, and with no room; full lists, read at their end; tables of sixteen; track chunks, each kind and each gap; and chunks that are read, each sentence of their rule. Random scripts meet all of this too,
+// Every call of some families at its limits: lent what is spoilt, handed each argument past its range, as it should be, and with no room; full lists, read at their end; tables of sixteen; track chunks, each kind and each gap; chunks that are read, and lists that are checked and fitted for the rehearsal player, each sentence of their rule. Random scripts meet all of this too,
 // but some of it seldom: the stored samples begin with these calls.
 
 use crate::chunks::GAPS;
@@ -128,6 +128,7 @@ pub fn script(seed: u64, families: &[i64]) -> Vec<Step> {
     if families.contains(&3) {
         maker.every_chunk();
         maker.every_read();
+        maker.every_profile();
     }
     maker.emit(902, &[96, 0, 64]);
     maker.steps
@@ -287,6 +288,50 @@ impl Maker {
             for body in [&SHORT[..], &SHORT[..20], &END] {
                 self.emit(312, &arguments(&framed(body)));
             }
+        }
+    }
+
+    /// Each kind, controller numbers and bends at the ends of what the player accepts, twins, channels, times, and refusals one before the other: each list is checked, fitted and checked again.
+    fn every_profile(&mut self) {
+        let [note, end, volume, bend, voice] = WRITTEN.map(|event| with(with(event, 1, 5), 2, 3));
+        let [range, meta, sysex, direct] = UNWRITTEN.map(|event| with(event, 1, 5));
+        let range = with(range, 2, 3);
+        let (loud, late) = (with(volume, 4, 99), with(volume, 1, 6));
+        self.profile_of(&[note, end, volume, bend, range, voice, meta, sysex, direct]);
+        for number in [0, 1, 2, 6, 7, 8, 9, 10, 11, 12, 63, 64, 65, 127] {
+            self.profile_of(&[with(volume, 3, number)]);
+        }
+        for value in [-1, 0, 16_383, 16_384, 32_639] {
+            self.profile_of(&[with(bend, 3, value), note]);
+        }
+        for list in [[volume, note, loud], [loud, note, volume], [volume, note, volume], [volume, late, with(volume, 3, 10)]] {
+            self.profile_of(&list);
+        }
+        for list in [[late, volume, loud], [volume, late, loud], [volume, with(note, 3, 7), with(bend, 3, 7)]] {
+            self.profile_of(&list);
+        }
+        for event in [note, end, volume, with(volume, 3, 2), bend, with(bend, 3, 16_384), range, voice, meta, sysex, direct] {
+            self.profile_of(&[event, with(event, 2, 4)]);
+            self.profile_of(&[with(event, 1, -1), with(event, 2, 3)]);
+        }
+        self.profile_of(&[with(volume, 2, 4), loud]);
+        for time in [-(1 << 42), -1, 0, 1 << 42] {
+            self.profile_of(&[with(meta, 1, time), note]);
+            self.profile_of(&[note, with(note, 1, time)]);
+        }
+        let (other, early, nowhere) = (with(note, 2, 4), with(note, 1, -1), with(note, 2, 16));
+        for list in [[note, other, early], [early, other, nowhere], [early, note, nowhere]] {
+            self.profile_of(&list);
+        }
+    }
+
+    fn profile_of(&mut self, list: &[Record]) {
+        self.emit(902, &[96, 0, list.len() as i64 + 1]);
+        for event in list {
+            self.emit(904, event);
+        }
+        for op in [313, 314, 313] {
+            self.emit(op, &[]);
         }
     }
 

@@ -6,6 +6,7 @@
 //     linked SEED merged COUNT                one script of full cuts of lists that are not sorted
 //     linked SEED chunks COUNT                one script of track chunks at the edges of what one holds
 //     linked SEED reads COUNT                 so many chunks read, good and damaged, and lists written and read back
+//     linked SEED profile COUNT               so many lists of each kind checked and fitted for the rehearsal player
 //     linked SEED passage COUNT               so many lists and their full cuts, played: of the port alone
 //     linked bench                            times of some calls on both sides
 
@@ -22,6 +23,7 @@ mod cut;
 mod desk;
 mod dice;
 mod edges;
+mod fitted;
 mod fuzz;
 mod library;
 mod make;
@@ -30,6 +32,7 @@ mod other;
 mod passage;
 mod poke;
 mod private;
+mod profile;
 mod quarter;
 mod reads;
 mod rules;
@@ -181,7 +184,7 @@ impl Pair {
         if !matches!(step.op, 205 | 607..=610 | 707..=709) {
             kept("the budget", &before.budget, &after.budget)?;
         }
-        if matches!(step.op, 305 | 306 | 311) {
+        if matches!(step.op, 305 | 306 | 311 | 313) {
             kept("the list", &before.events, &after.events)?;
         }
         kept("the record past the cycle table", &before.cycles[16], &after.cycles[16])
@@ -287,11 +290,12 @@ fn main() {
         [seed, "merged", count] => compare_all(number(seed), 1, |seed| merged::script(seed, number(count) as usize)),
         [seed, "chunks", count] => compare_all(number(seed), 1, |seed| chunks::script(seed, number(count) as usize)),
         [seed, "reads", count] => std::process::exit(i32::from(!fuzz::run(number(seed), number(count) as usize))),
+        [seed, "profile", count] => std::process::exit(i32::from(!fitted::run(number(seed), number(count) as usize))),
         [seed, "passage", count] => std::process::exit(i32::from(!passage::run(number(seed), number(count) as usize))),
         [seed, count, families] => compare_all(number(seed), 1, random(count, families)),
         [seed, count, families, seeds] => compare_all(number(seed), number(seeds), random(count, families)),
         _ => {
-            eprintln!("linked SEED COUNT FAMILIES [SEEDS] | SEED edges | SEED merged COUNT | SEED chunks COUNT | SEED reads COUNT | SEED passage COUNT | bench");
+            eprintln!("linked SEED COUNT FAMILIES [SEEDS] | SEED edges | SEED merged COUNT | SEED chunks COUNT | SEED reads COUNT | SEED profile COUNT | SEED passage COUNT | bench");
             std::process::exit(2);
         }
     }

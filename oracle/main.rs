@@ -7,6 +7,7 @@
 //     oracle merged SEED COUNT > script           full cuts of lists that are not sorted; `oracle merged SEED COUNT figures` prints what they are like
 //     oracle chunks SEED COUNT > script           track chunks at the edges of what one holds; `oracle chunks SEED COUNT figures` prints what they are like
 //     oracle reads SEED COUNT > script            track chunks that are read, good and damaged; `oracle reads SEED COUNT figures` prints what they are like
+//     oracle profile SEED COUNT > script          lists of each kind checked and fitted for the rehearsal player; `oracle profile SEED COUNT figures` prints what they are like
 //     oracle text < script          one call a line; `oracle binary < text` goes back
 //     oracle cases                  document 01's cases that need only the original
 //     oracle sines SEED COUNT       document 01's sine values beside the original's
@@ -31,6 +32,7 @@ mod make;
 mod merged;
 mod poke;
 mod private;
+mod profile;
 mod quarter;
 mod reads;
 mod rules;
@@ -69,6 +71,8 @@ fn main() -> Result<()> {
         ["chunks", seed, count, "figures"] => chunks::print(number(seed), number(count) as usize, &mut out)?,
         ["reads", seed, count] => script::write(&reads::script(number(seed), number(count) as usize), &mut out)?,
         ["reads", seed, count, "figures"] => reads::print(number(seed), number(count) as usize, &mut out)?,
+        ["profile", seed, count] => script::write(&profile::script(number(seed), number(count) as usize), &mut out)?,
+        ["profile", seed, count, "figures"] => profile::print(number(seed), number(count) as usize, &mut out)?,
         ["text"] => {
             for step in script::read(&mut stdin())? {
                 writeln!(out, "{}", step.text())?;
@@ -116,7 +120,7 @@ fn main() -> Result<()> {
             }
         }
         _ => {
-            eprintln!("oracle run | make SEED COUNT FAMILIES | limits SEED FAMILIES | edges SEED [names] | merged SEED COUNT [figures] | chunks SEED COUNT [figures] | reads SEED COUNT [figures] | text | binary | cases | sines SEED COUNT | tape | tapes SEED COUNT | tapes lists | plays | each PROGRAM.. | pick N | thin N");
+            eprintln!("oracle run | make SEED COUNT FAMILIES | limits SEED FAMILIES | edges SEED [names] | merged SEED COUNT [figures] | chunks SEED COUNT [figures] | reads SEED COUNT [figures] | profile SEED COUNT [figures] | text | binary | cases | sines SEED COUNT | tape | tapes SEED COUNT | tapes lists | plays | each PROGRAM.. | pick N | thin N");
             std::process::exit(2);
         }
     }

@@ -51,6 +51,7 @@ pub fn script(seed: u64, count: usize, families: &[i64]) -> Vec<Step> {
             23 if maker.has(&[7]) && maker.dice.one_in(8) => maker.many_writes(),
             24 if maker.has(&[4, 5, 7]) && maker.dice.one_in(20) => maker.walk(),
             25 if maker.has(&[3]) => maker.written_list(),
+            26 if maker.has(&[3]) => maker.profiled_list(),
             _ => maker.any_call(|_| true),
         }
     }

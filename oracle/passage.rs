@@ -1,17 +1,19 @@
 // A passage that was cut out plays as it plays in the song: random lists, the linked library's full cut of each, and a player that plays both and is asked what it has, from the cut to the last event.
 // The player knows nothing of how a cut is made (docs/COMPARING.md has its rule). It also holds what the passage plays against what the song plays from the cut on, and a cut of the
-// passage against one cut of the song. Where something differs it drops events for as long as something still does, and prints the list that is left.
+// passage against one cut of the song. The passage is then normalized and fitted to the rehearsal player, and played beside the song once more. Where something differs it drops events for as long as something still does, and prints the list that is left.
 
 use crate::desk::Record;
 use crate::dice::Dice;
 use crate::library;
 use crate::other::{records, Other, WIDTH};
+use crate::profile::{BENDS, HEEDED};
 use crate::script::Step;
 use std::collections::BTreeMap;
 
 const KIND: usize = 0;
 const TIME: usize = 1;
 const CHANNEL: usize = 2;
+const V1: usize = 3;
 const NOTE: i64 = 0;
 const CONTROLLER: i64 = 2;
 const BEND: i64 = 3;
@@ -21,8 +23,17 @@ const SYSEX: i64 = 7;
 const SOUNDS: [i64; 4] = [NOTE, CONTROLLER, BEND, PROGRAM];
 const SILENT: [i64; 2] = [META, SYSEX];
 
+const FULL_CUT: i64 = 310;
+const NORMALIZE: i64 = 307;
+const CHECK: i64 = 313;
+const FIT: i64 = 314;
+
 /// The most events of a list, which is as many as it has room for.
 const MOST: i64 = 40;
+/// The room of a passage that is normalized: every event may be a note that gets its end.
+const ENDED: i64 = 2 * MOST;
+/// The calls and numbers that leave a passage unfitted: an end past an event's range, no room, more than one channel, an end below 0.
+const UNFITTED: [(i64, i64); 4] = [(NORMALIZE, 4), (NORMALIZE, 7), (FIT, 17), (FIT, 18)];
 /// Cuts lie within plus or minus this, times of events within four times as much.
 const FAR: i64 = 1 << 40;
 
@@ -107,25 +118,46 @@ struct Figures {
     /// So it is before both cuts.
     before_both: usize,
     states: usize,
+    fitted: usize,
+    /// Of those fitted: with fewer events than before; all bends in range, so that the bend is asked; all sixteen channels asked.
+    thinned: usize,
+    bends: usize,
+    each_channel: usize,
+    /// By the rows of UNFITTED.
+    unfitted: [usize; UNFITTED.len()],
+    rehearsed: usize,
+}
+
+impl Figures {
+    fn print(&self, seed: u64) {
+        let Figures { lists, refused, unsorted, folded, one_channel, before_both, states, fitted, thinned, bends, each_channel, unfitted, rehearsed } =
+            self;
+        println!("seed {seed}: {lists} lists, {refused} of them refused, each other passage plays as its song; {states} states compared");
+        println!("not sorted {unsorted}, with something folded {folded}; of these with one channel before the cut {one_channel}, before both cuts {before_both}");
+        println!("{fitted} passages normalized and fitted, each plays as its song what the rehearsal player heeds; {rehearsed} states compared");
+        println!("with events dropped {thinned}, all bends in range {bends}, one channel before the cut {each_channel}");
+        let [late, room, channels, early] = unfitted;
+        println!("{} passages not fitted: normalize 4 {late}, 7 {room}; fit 17 {channels}, 18 {early}", unfitted.iter().sum::<usize>());
+    }
 }
 
 /// Tries so many lists; answers whether every passage played as its song.
 pub fn run(seed: u64, count: usize) -> bool {
-    let (mut dice, mut desk, mut figures) = (Dice::new(seed), Other::new(96, 0, MOST), Figures::default());
+    let (mut dice, mut desk, mut figures) = (Dice::new(seed), Other::new(96, 0, ENDED), Figures::default());
     for at in 0..count {
         let case = Case::random(&mut dice);
         if case.tried(&mut desk, &mut figures).is_err() {
-            let (least, what) = case.smallest(&mut desk);
             println!("seed {seed}: list {at} of {count} does not play as its song; the least of it that does not:");
-            print!("{}", least.text());
-            println!("{what}");
+            println!("{}", case.smallest(&mut desk));
             return false;
         }
     }
-    let Figures { lists, refused, unsorted, folded, one_channel, before_both, states } = figures;
-    println!("seed {seed}: {lists} lists, {refused} of them refused, each other passage plays as its song; {states} states compared");
-    println!("not sorted {unsorted}, with something folded {folded}; of these with one channel before the cut {one_channel}, before both cuts {before_both}");
+    figures.print(seed);
     true
+}
+
+fn step(op: i64, args: &[i64]) -> Step {
+    Step { op, args: args.to_vec() }
 }
 
 impl Case {
@@ -159,15 +191,15 @@ impl Case {
         Case { song, cut, again }
     }
 
-    /// The calls that make the list and cut it, as tools/script reads them.
-    fn text(&self) -> String {
-        let step = |op: i64, args: &[i64]| Step { op, args: args.to_vec() }.text() + "\n";
-        let events: String = self.song.iter().map(|event| step(301, event)).collect();
-        step(902, &[96, 0, MOST]) + &events + &step(310, &[self.cut]) + &step(310, &[self.again])
+    /// The calls that make the list in so much room, those behind them, as tools/script reads them, and what differs then.
+    fn shown(&self, room: i64, calls: &[Step], what: &str) -> String {
+        let made = std::iter::once(step(902, &[96, 0, room])).chain(self.song.iter().map(|event| step(301, event)));
+        let text: String = made.chain(calls.iter().cloned()).map(|call| call.text() + "\n").collect();
+        text + what
     }
 
-    /// Without as many events as can go one by one while something still differs, and what then does.
-    fn smallest(&self, desk: &mut Other) -> (Case, String) {
+    /// What differs without as many events as can go one by one while something still does.
+    fn smallest(&self, desk: &mut Other) -> String {
         let (mut least, mut at) = (self.clone(), 0);
         while at < least.song.len() {
             let mut fewer = least.clone();
@@ -177,11 +209,20 @@ impl Case {
                 Err(_) => (least, at) = (fewer, 0),
             }
         }
-        let what = least.tried(desk, &mut Figures::default()).expect_err("a list that differs");
-        (least, what)
+        least.tried(desk, &mut Figures::default()).expect_err("a list that differs")
     }
 
     fn tried(&self, desk: &mut Other, figures: &mut Figures) -> Result<(), String> {
+        let cuts = [step(FULL_CUT, &[self.cut]), step(FULL_CUT, &[self.again])];
+        let fitting = [step(FULL_CUT, &[self.cut]), step(NORMALIZE, &[]), step(FIT, &[]), step(CHECK, &[])];
+        match self.cut_out(desk, figures).map_err(|what| self.shown(MOST, &cuts, &what))? {
+            Some(passage) => self.rehearsed(desk, &passage, figures).map_err(|what| self.shown(ENDED, &fitting, &what)),
+            None => Ok(()),
+        }
+    }
+
+    /// The passage, which plays as the song and so does a cut of it; none where the cut is refused as it has to be.
+    fn cut_out(&self, desk: &mut Other, figures: &mut Figures) -> Result<Option<Vec<Record>>, String> {
         let Case { song, cut, again } = self;
         figures.lists += 1;
         figures.unsorted += usize::from(!song.is_sorted_by_key(|event| event[TIME]));
@@ -190,7 +231,7 @@ impl Case {
             Ok(passage) => passage,
             Err(4) if self.too_far() => {
                 figures.refused += 1;
-                return Ok(());
+                return Ok(None);
             }
             Err(code) => return Err(format!("the cut is refused with {code}")),
         };
@@ -207,7 +248,42 @@ impl Case {
         let once = full_cut(desk, song, cut + again).map_err(refused)?;
         figures.states += same_states(&once, "one cut", &twice, "a cut of the passage", one)?;
         let others = |list: &[Record]| of(list, &[NOTE, META, SYSEX]);
-        same("notes, Meta and SysEx of one cut and of a cut of the passage", &others(&once), &others(&twice))
+        same("notes, Meta and SysEx of one cut and of a cut of the passage", &others(&once), &others(&twice))?;
+        Ok(Some(passage))
+    }
+
+    /// The passage, normalized and then fitted, passes the library's check, and plays as the song what the rehearsal player heeds: the five controllers, the program and, where every bend of the passage is in
+    /// range, the bend. Other controllers are not heard of it at all.
+    fn rehearsed(&self, desk: &mut Other, passage: &[Record], figures: &mut Figures) -> Result<(), String> {
+        let (mut fitted, mut long) = (passage.to_vec(), 0);
+        for op in [NORMALIZE, FIT] {
+            long = fitted.len();
+            fitted = match left(desk, ENDED, &fitted, &step(op, &[])) {
+                Ok(list) => list,
+                Err(code) => {
+                    let row = UNFITTED.iter().position(|&row| row == (op, code)).ok_or_else(|| format!("call {op} is refused with {code}"))?;
+                    figures.unfitted[row] += 1;
+                    return Ok(());
+                }
+            };
+        }
+        let check = library::make(desk, &step(CHECK, &[]));
+        if (check.code, &check.answers[..]) != (0, &[1]) {
+            return Err(format!("the check of what was fitted answers {} and {:?}: {fitted:?}", check.code, check.answers));
+        }
+
+        let (one, bends) = (on_one_channel(&self.song, self.cut), of(passage, &[BEND]).iter().all(|event| BENDS.contains(&event[V1])));
+        figures.fitted += 1;
+        figures.thinned += usize::from(fitted.len() < long);
+        figures.bends += usize::from(bends);
+        figures.each_channel += usize::from(one);
+        let mut song = moved(&self.song, self.cut);
+        song.retain(|event| event[KIND] != CONTROLLER || HEEDED.contains(&event[V1]));
+        for list in [&mut song, &mut fitted] {
+            list.retain(|event| bends || event[KIND] != BEND);
+        }
+        figures.rehearsed += same_states(&song, "the song", &fitted, "the passage, normalized and fitted", one)?;
+        Ok(())
     }
 
     /// Whether an event that travels would get a time that no event may have.
@@ -230,16 +306,20 @@ fn event(dice: &mut Dice, numbers: &[i64]) -> Record {
     }
 }
 
-/// What the library's full cut leaves of a list, or the number that refuses it.
-fn full_cut(desk: &mut Other, list: &[Record], cut: i64) -> Result<Vec<Record>, i64> {
-    desk.count = list.len();
+/// What a call of the library leaves of a list in so much room, or the number that refuses it.
+fn left(desk: &mut Other, room: i64, list: &[Record], call: &Step) -> Result<Vec<Record>, i64> {
+    (desk.room, desk.count) = (room as usize, list.len());
     desk.events[..list.len() * WIDTH].copy_from_slice(&list.concat());
-    let reply = library::make(desk, &Step { op: 310, args: vec![cut] });
+    let reply = library::make(desk, call);
     if reply.code == 0 {
         Ok(records(&desk.events, desk.count))
     } else {
         Err(reply.code)
     }
+}
+
+fn full_cut(desk: &mut Other, list: &[Record], cut: i64) -> Result<Vec<Record>, i64> {
+    left(desk, MOST, list, &step(FULL_CUT, &[cut]))
 }
 
 fn of(list: &[Record], kinds: &[i64]) -> Vec<Record> {

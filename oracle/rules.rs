@@ -1,5 +1,5 @@
 // Document 01's refusals, asked before the original is called: "Numbers a caller may hand in" and the table of "Numbers that come back", in the table's
-// order. What can only be known by making the call (4 for a resulting event time, 7) is asked afterwards, in calls.rs, and what a track chunk refuses (10 to 15) in smf.rs.
+// order. What can only be known by making the call (4 for a resulting event time, 7) is asked afterwards, in calls.rs, what a track chunk refuses (10 to 15) in smf.rs, and what the profile refuses (17, 18) in profile.rs.
 
 use crate::desk::*;
 use crate::original::*;

@@ -111,6 +111,8 @@ pub const CALLS: &[Call] = &[
     call(310, "full_cut", "E", &[Time]),
     call(311, "write_chunk", "E", &[Room]),
     call(312, "read_chunk", "A", &[Chunk]),
+    call(313, "check_profile", "E", &[]),
+    call(314, "fit_profile", "E", &[]),
     call(401, "param_new", "", &[PARAM]),
     call(402, "param_clear_reserve", "P", &[PARAM]),
     call(403, "param_has_reserve", "P", &[PARAM]),

@@ -1,12 +1,13 @@
 // Some calls of the linked port beside the original's, timed in one process. Both sides make the call once first, and what it writes is compared. A figure is the median of
-// batches that take turns; docs/PERFORMANCE.md says what was seen. The original has no track chunk of such a list: an ordinary writer with no tests stands in its place, and of one that is read an ordinary reader, which tests what it reads.
+// batches that take turns; docs/PERFORMANCE.md says what was seen. The original has no track chunk of such a list: an ordinary writer with no tests stands in its place, and of one that is read an ordinary reader, which tests what it reads. Nor has it the rehearsal player's profile: an ordinary check and an ordinary fitting in place, with the same tests of the list, stand there.
 
-use crate::desk::{records_of, Record};
+use crate::desk::{byte, records_of, Record, STORE};
 use crate::dice::Dice;
 use crate::dollavir;
 use crate::fuzz::without_running;
 use crate::original::*;
 use crate::other::{records, Other, WIDTH};
+use crate::profile;
 use crate::smf;
 use std::time::Instant;
 
@@ -48,8 +49,24 @@ fn line(name: &str, mut theirs: Theirs, mut ours: Other, their: impl Fn(&mut The
 
 /// Times so many calls a batch and prints the row; `same` holds what the two sides left against each other after each batch.
 fn timed<T, O>(name: &str, calls: usize, theirs: &mut T, ours: &mut O, their: impl Fn(&mut T), our: impl Fn(&mut O), same: impl Fn(&T, &O) -> bool) {
+    timed_from(name, calls, theirs, ours, |_, _| (), their, our, same);
+}
+
+/// The same, both sides made `ready` before each batch, which is not timed.
+#[allow(clippy::too_many_arguments)]
+fn timed_from<T, O>(
+    name: &str,
+    calls: usize,
+    theirs: &mut T,
+    ours: &mut O,
+    ready: impl Fn(&mut T, &mut O),
+    their: impl Fn(&mut T),
+    our: impl Fn(&mut O),
+    same: impl Fn(&T, &O) -> bool,
+) {
     let mut times = [vec![], vec![]];
     for batch in 0..=BATCHES {
+        ready(theirs, ours);
         let start = Instant::now();
         for _ in 0..calls {
             their(theirs);
@@ -99,6 +116,21 @@ pub fn print() {
     for events in [1_000, 100_000] {
         read("each with its status", &smf::chunk(&voice(events)).expect("a list that is written"), events);
         read("running status", &without_running(&notes(events)), events);
+    }
+    profiles();
+}
+
+/// The rows of the rehearsal player's profile.
+pub fn profiles() {
+    for events in [1_000, 100_000] {
+        for (what, at_once) in [("few at a time", 3), ("many at a time", 50)] {
+            check(&format!("check_profile, {events} events, {what}"), &fitting(events, at_once, false));
+        }
+        for (order, shuffled) in [("sorted", false), ("shuffled", true)] {
+            for (what, at_once) in [("few twins", 3), ("many twins", 50)] {
+                fit(&format!("fit_profile, {events} events, {order}, {what}"), &player(events, at_once, shuffled));
+            }
+        }
     }
 }
 
@@ -370,5 +402,188 @@ fn read(what: &str, chunk: &[u8], events: usize) {
             assert!(code == 0, "read_chunk: refused");
         },
         |plain, (list, count)| *plain == records(list, *count),
+    );
+}
+
+/// What a rehearsal player is sent before it is fitted: notes, their ends, its controllers and bends on one channel, so many at one time. The more at a time, the more of a controller's events have a later one.
+fn player(events: usize, at_once: i64, shuffled: bool) -> Vec<Record> {
+    let mut dice = Dice::new(3);
+    let mut list: Vec<Record> = (0..events as i64)
+        .map(|at| {
+            let (time, note, value) = (at / at_once * 6, dice.pick(36, 96), dice.pick(1, 127));
+            match dice.pick(0, 9) {
+                0..=2 => [0, time, 0, note, 48, value, 0, 0],
+                3..=5 => [1, time, 0, note, 0, 0, 0, 0],
+                6 => [3, time, 0, dice.pick(0, 16_500), 0, 0, 0, 0],
+                _ => [2, time, 0, dice.of(&[1, 7, 7, 10, 11, 64, 91]), value, 0, 0, 0],
+            }
+        })
+        .collect();
+    for at in (1..events).rev().filter(|_| shuffled) {
+        list.swap(at, dice.pick(0, at as i64) as usize);
+    }
+    list
+}
+
+/// What is left of such a list, and as many more notes as were dropped.
+fn fitting(events: usize, at_once: i64, shuffled: bool) -> Vec<Record> {
+    let mut list = profile::fit(&player(events, at_once, shuffled)).expect("a list of one channel");
+    let dropped = events - list.len();
+    let last = list[list.len() - 1][1];
+    list.extend((0..dropped as i64).map(|at| [0, last + at / at_once * 6, 0, 60, 48, 100, 0, 0]));
+    list
+}
+
+/// What an ordinary program asks of an event before it goes on with it.
+fn plain_sound(event: &[i64], store: usize) -> bool {
+    let word = |x: i64| x == i64::from(x as i32);
+    let [kind, time, channel, v1, v2, v3, offset, length] = *event else { return false };
+    let data = match kind {
+        6..=8 => offset >= 0 && length >= 0 && offset <= store as i64 && length <= store as i64 - offset,
+        _ => offset == 0 && length == 0,
+    };
+    (0..=8).contains(&kind)
+        && time.unsigned_abs() <= 1 << 42
+        && (0..=15).contains(&channel)
+        && word(v1)
+        && word(v2)
+        && word(v3)
+        && (kind != 2 || (0..=127).contains(&v1))
+        && data
+}
+
+fn plain_heeded(number: i64) -> bool {
+    matches!(number, 1 | 7 | 10 | 11 | 64)
+}
+
+/// The check as it is usually written: once through, with a bit for each controller met at the present time.
+fn plain_check(numbers: &[i64], count: usize, store: usize) -> Result<bool, u32> {
+    if numbers.len() % WIDTH != 0 || count > numbers.len() / WIDTH {
+        return Err(1);
+    }
+    let (mut yes, mut channel, mut now, mut met) = (true, None, 0, 0_u128);
+    for event in numbers.chunks_exact(WIDTH).take(count) {
+        if !plain_sound(event, store) {
+            return Err(4);
+        }
+        let (kind, time, v1) = (event[0], event[1], event[3]);
+        yes &= time >= now;
+        if time != now {
+            (now, met) = (time, 0);
+        }
+        yes &= kind > 5 || *channel.get_or_insert(event[2]) == event[2];
+        match kind {
+            2 => {
+                let bit = 1 << v1;
+                yes &= plain_heeded(v1) && met & bit == 0;
+                met |= bit;
+            }
+            3 => yes &= (0..=16_383).contains(&v1),
+            _ => (),
+        }
+    }
+    Ok(yes)
+}
+
+/// The fitting as it is usually written: one look, a stable sort where times fall, and for each time the last place of each controller.
+fn plain_fit(numbers: &mut [i64], count: usize, store: usize) -> Result<usize, u32> {
+    if numbers.len() % WIDTH != 0 || count > numbers.len() / WIDTH {
+        return Err(1);
+    }
+    let list = &mut numbers.as_chunks_mut::<WIDTH>().0[..count];
+    let (mut channel, mut single, mut timely, mut rising, mut before) = (None, true, true, true, i64::MIN);
+    for event in list.iter() {
+        if !plain_sound(event, store) {
+            return Err(4);
+        }
+        single &= event[0] > 5 || *channel.get_or_insert(event[2]) == event[2];
+        timely &= event[1] >= 0;
+        rising &= event[1] >= before;
+        before = event[1];
+    }
+    if !single {
+        return Err(17);
+    }
+    if !timely {
+        return Err(18);
+    }
+    if !rising {
+        list.sort_by_key(|event| event[1]);
+    }
+    let (mut left, mut start, mut last) = (0, 0, [0; 128]);
+    while start < count {
+        let mut end = start;
+        while end < count && list[end][1] == list[start][1] {
+            if list[end][0] == 2 {
+                last[list[end][3] as usize] = end;
+            }
+            end += 1;
+        }
+        for at in start..end {
+            let (kind, v1) = (list[at][0], list[at][3]);
+            let kept = match kind {
+                2 => plain_heeded(v1) && last[v1 as usize] == at,
+                3 => (0..=16_383).contains(&v1),
+                _ => true,
+            };
+            if kept {
+                list[left] = list[at];
+                left += 1;
+            }
+        }
+        start = end;
+    }
+    list[left..].fill([0; WIDTH]);
+    Ok(left)
+}
+
+/// A list that passes.
+fn check(name: &str, list: &[Record]) {
+    let (numbers, store): (Vec<i64>, [u8; STORE]) = (list.concat(), std::array::from_fn(byte));
+    timed(
+        name,
+        if list.len() > 1_000 { 2 } else { CALLS },
+        &mut false,
+        &mut 0,
+        |yes| *yes = plain_check(std::hint::black_box(&numbers), list.len(), store.len()).expect("a sound list"),
+        |yes| {
+            let code = unsafe { dollavir::dollavir_check_profile(numbers.as_ptr(), numbers.len(), list.len(), store.as_ptr(), store.len(), yes) };
+            assert!(code == 0, "{name}: refused");
+        },
+        |plain, yes| *plain && *yes == 1,
+    );
+}
+
+/// A list that each call finds as it was: as many copies as a batch has calls are made before it.
+fn fit(name: &str, list: &[Record]) {
+    let (numbers, store): (Vec<i64>, [u8; STORE]) = (list.concat(), std::array::from_fn(byte));
+    let calls = if list.len() > 1_000 { 2 } else { CALLS / 10 };
+    let copies = || (vec![(numbers.clone(), list.len()); calls], 0);
+    timed_from(
+        name,
+        calls,
+        &mut copies(),
+        &mut copies(),
+        |theirs, ours| {
+            for side in [theirs, ours] {
+                side.1 = 0;
+                for (copy, count) in &mut side.0 {
+                    copy.copy_from_slice(&numbers);
+                    *count = list.len();
+                }
+            }
+        },
+        |(copies, next)| {
+            let (copy, count) = &mut copies[*next];
+            *count = plain_fit(std::hint::black_box(copy), *count, store.len()).expect("a list that is fitted");
+            *next += 1;
+        },
+        |(copies, next)| {
+            let (copy, count) = &mut copies[*next];
+            let code = unsafe { dollavir::dollavir_fit_profile(copy.as_mut_ptr(), copy.len(), count, store.as_ptr(), store.len()) };
+            assert!(code == 0, "{name}: refused");
+            *next += 1;
+        },
+        |theirs, ours| theirs == ours,
     );
 }

@@ -33,6 +33,9 @@ use notes::normalize;
 use notes::split_note_off;
 use numbers::is_target;
 use numbers::is_time;
+use profile::ProfileAnswer;
+use profile::check_profile;
+use profile::fit_profile;
 use script::answer::Answer;
 use script::answer::done;
 use script::answer::one;
@@ -152,12 +155,20 @@ fn split(own: usize, count: usize, events: &[i64], second: &mut [i64], store: &[
     }
 }
 
-// 312: the list has the chunk's events, and the call answers how many.
-fn read_in(own: usize, t: Taken) -> Listed {
+// 312 and 314: the list has other events, and the call answers how many.
+fn replaced(own: usize, t: Taken) -> Listed {
     if t.code != 0 {
         return of_list(refusal(t.code), own);
     }
     of_list(one(counted(t.count)), t.count)
+}
+
+// 313.
+fn accepted(p: ProfileAnswer) -> Answer {
+    if p.code != 0 {
+        return refusal(p.code);
+    }
+    one(p.yes as i64)
 }
 
 // A call on the list as it is lent, n records handed in.
@@ -182,7 +193,9 @@ fn on_list(
         308 => of_list(refusal(events_sort(events, n, store)), own),
         309 => left(own, play_from(events, n, a, store)),
         310 => left(own, full_cut(events, n, a, store)),
-        312 => read_in(own, take_chunk(args, events, n)),
+        312 => replaced(own, take_chunk(args, events, n)),
+        313 => of_list(accepted(check_profile(events, n, store)), own),
+        314 => replaced(own, fit_profile(events, n, store)),
         _ => of_list(unknown(), own),
     }
 }
