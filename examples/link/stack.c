@@ -59,6 +59,8 @@ static void normalize(void) { code = dollavir_normalize(events, ROOM * WIDTH, &c
 static void play_from(void) { code = dollavir_play_from(events, ROOM * WIDTH, &count, 10, store, 0); }
 static void write_chunk(void) { code = dollavir_write_chunk(events, ROOM * WIDTH, count, store, 0, chunk, sizeof chunk, &bytes); }
 static void read_chunk(void) { code = dollavir_read_chunk(chunk, bytes, events, ROOM * WIDTH, &count); }
+static void check_profile(void) { uint32_t yes; code = dollavir_check_profile(events, ROOM * WIDTH, count, store, 0, &yes); }
+static void fit_profile(void) { code = dollavir_fit_profile(events, ROOM * WIDTH, &count, store, 0); }
 static void full_cut(void) { code = dollavir_full_cut(events, ROOM * WIDTH, &count, 10, store, 0); }
 
 // Controllers at scattered times, as many as there is room for: the sort's worst case is near.
@@ -149,6 +151,8 @@ int main(void) {
     static const struct call of_list[] = {
         CALL(split_note_off), CALL(normalize), CALL(events_sort), CALL(write_chunk), CALL(read_chunk), CALL(play_from), CALL(full_cut), {NULL, NULL},
     };
+    // A list that is not sorted is fitted, and one that is accepted is checked to its end.
+    static const struct call of_profile[] = {CALL(fit_profile), CALL(check_profile), {NULL, NULL}};
     stack = aligned_alloc(4096, STACK);
     if (stack == NULL) {
         return 1;
@@ -163,6 +167,8 @@ int main(void) {
     measure(of_track);
     scatter();
     measure(of_list);
+    scatter();
+    measure(of_profile);
     printf("the most: %zu bytes\n", most);
     return 0;
 }
