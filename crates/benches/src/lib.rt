@@ -1,5 +1,7 @@
 // Calls under plain names, for bench/main.rs to link beside the original: the list's, each of which answers the list's
 // new count, or the number of its refusal above every count; the value of a curve; and, in `tracks`, the track's.
+#![tactic(auto)]
+
 pub mod tracks;
 
 use cutting::{full_cut, play_from};

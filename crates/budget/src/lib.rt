@@ -2,6 +2,8 @@
 // hands back, advanced. A write first steps the seed, then asks for its bytes; one that does not fit sets the
 // flag `over` and takes none. A new budget is tested as it is made, one that comes from outside by `budget_ok`; the rest
 // here asks nothing of the record.
+#![tactic(auto)]
+
 ghost use Rattle.std.specs.Prelude.{◌≡◌, ◌<◌, ◌^◌};
 ghost use Rattle.std.specs.Int.Signed.{mag};
 ghost use Rattle.numbers.specs.Limits.{value_bytes};
@@ -9,7 +11,7 @@ ghost use Rattle.budget.specs.Budgets.{new_budget, ok_budget, free, room, step_b
 
 // `used` may exceed `maximum`; `over` is 1 once a write did not fit, else 0.
 #[repr(C)]
-#[derive(Drop)]
+#[derive(Clone, Copy)]
 pub struct Budget {
     pub seed: u32,
     pub maximum: u32,
@@ -19,21 +21,21 @@ pub struct Budget {
 
 // What `Budget::new` answers: 0 and the budget, or the refusal's number and a budget of zeros.
 #[repr(C)]
-#[derive(Drop)]
+#[derive(Clone, Copy)]
 pub struct BudgetAnswer {
     pub code: u32,
     pub budget: Budget,
 }
 
 // What asking for bytes gives.
-#[derive(Drop)]
+#[derive(Clone, Copy)]
 pub struct Reserved {
     pub budget: Budget,
     pub fits: bool,
 }
 
 // A value that random moved, and the budget after it.
-#[derive(Drop)]
+#[derive(Clone, Copy)]
 pub struct Rolled {
     pub value: i64,
     pub budget: Budget,

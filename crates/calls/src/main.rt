@@ -1,6 +1,8 @@
 // The port's side of the comparison with the Rust: reads a script of calls from standard input, carries each out on
 // its desk, and prints what the call answered and left, as docs/COMPARING.md says. The families of
 // calls stand in crates below it; a call that is not there prints `op -1`.
+#![tactic(auto)]
+
 ghost use Rattle.std.specs.Prelude.{◌≡◌, length};
 
 use desk::lending::{handed, numbers_in};
@@ -19,7 +21,7 @@ use trackcalls::{family5, family6, family8};
 const MOST_CALLS: u64 = 100000000;
 
 // Where a run of a script stands.
-#[derive(Drop)]
+#[derive(Clone, Copy)]
 struct Run {
     desk: Desk,
     pen: Pen,

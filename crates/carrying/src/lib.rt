@@ -1,5 +1,7 @@
 // The call that each record of a tape names, and the state that the records work at. Each is a public call of the port, handed
 // the record's numbers; what it answers and leaves is said by its own definition.
+#![tactic(auto)]
+
 ghost use Rattle.std.specs.Prelude.{◌≡◌, ◌≤◌, length, take};
 ghost use Rattle.numbers.specs.Limits.{list_limit};
 ghost use Rattle.drawing.specs.Calls.{draw_answer, draw_left, on_time};
@@ -18,7 +20,7 @@ use state::{Track, TrackAnswer, set_cc_on_time_freq, set_pb_on_time_freq, set_ti
 use values::widened;
 
 // What a tape's records work at, beside the list of events: `count` of these are in use.
-#[derive(Drop)]
+#[derive(Clone, Copy)]
 pub struct State {
     pub track: Track,
     pub cycles: [Cycle; PLACES],
@@ -27,7 +29,7 @@ pub struct State {
 }
 
 // What a record's call answers, and the state after it.
-#[derive(Drop)]
+#[derive(Clone, Copy)]
 pub struct Carried {
     pub code: u32,
     pub state: State,

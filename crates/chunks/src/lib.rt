@@ -2,6 +2,8 @@
 // full status, and the end of track last. One pass tests and counts, so that a list that cannot be written or an output
 // that is too short is refused with nothing written; a second pass writes. Only where an event cannot be written does a
 // pass of its own ask why.
+#![tactic(auto)]
+
 ghost use Rattle.std.specs.Prelude.{◌≡◌, true, [], ◌∷◌, ◌++◌, ◌+◌, ◌/◌, ◌%◌, ◌≤◌, ◌<◌, pos, length};
 ghost use Rattle.laws.specs.Integers.{cut};
 ghost use Rattle.numbers.specs.Ranges.{is_event_time, is_channel, is_bend};
@@ -41,7 +43,7 @@ const LENGTH_TOP: usize = 4294967296;
 
 // What `write_chunk` answers: 0 and the bytes of the chunk, or the refusal's number and 0.
 #[repr(C)]
-#[derive(Drop)]
+#[derive(Clone, Copy)]
 pub struct Chunk {
     pub code: u32,
     pub bytes: usize,
@@ -110,7 +112,7 @@ fn event_size(last: i64, e: Event) -> usize
 
 // What a pass over the list has seen: the time of the last event, whether each follows the one before it, whether each
 // fits, and the bytes of all.
-#[derive(Drop)]
+#[derive(Clone, Copy)]
 struct Tally {
     last: i64,
     gaps: bool,
@@ -135,7 +137,7 @@ fn one_more(t: Tally, e: Event) -> Tally
 
 // What is known of a list before it is written: whether each event may be stored, whether each follows the one before it,
 // whether each fits, and how long the body is.
-#[derive(Drop)]
+#[derive(Clone, Copy)]
 struct Weighed {
     stored: bool,
     gaps: bool,
@@ -178,7 +180,7 @@ fn weigh(events: &[i64], count: usize, store: usize) -> Weighed
 }
 
 // Where the next event is put, and the time that its gap is counted from.
-#[derive(Drop)]
+#[derive(Clone, Copy)]
 struct Pen {
     at: usize,
     time: i64,
@@ -274,7 +276,7 @@ fn judge(events: &[i64], count: usize, store: usize, room: usize) -> Chunk
 }
 
 // A message of two or three bytes.
-#[derive(Drop)]
+#[derive(Clone, Copy)]
 struct Message {
     status: u8,
     first: u8,

@@ -1,5 +1,7 @@
 // Lists of numbers that are held by value: a count, and room for as many as a list may have. What stands past the
 // count is zero in every list made here, and is never read.
+#![tactic(auto)]
+
 ghost use Rattle.std.specs.Prelude.{◌≡◌, ◌≤◌};
 ghost use Rattle.laws.specs.Lists.{all};
 ghost use Rattle.numbers.specs.Limits.{list_limit};
@@ -12,14 +14,14 @@ use numbers::{is_length, is_number};
 pub const LIST_LIMIT: usize = 192;
 
 #[repr(C)]
-#[derive(Drop)]
+#[derive(Clone, Copy)]
 pub struct Numbers {
     pub count: usize,
     pub items: [i32; LIST_LIMIT],
 }
 
 // A list made of a lent one, or the number 3 and the empty list.
-#[derive(Drop)]
+#[derive(Clone, Copy)]
 pub struct Listed {
     pub code: u32,
     pub list: Numbers,
@@ -107,7 +109,7 @@ pub fn curve_ok(list: Numbers) -> bool
 }
 
 // The number at a place of a list, if so many count.
-#[derive(Drop)]
+#[derive(Clone, Copy)]
 pub enum Got {
     Value(i32),
     Nothing,

@@ -1,6 +1,8 @@
 // The calls as a C program makes them, by the names of docs/API.md after `dollavir_`. A record that a call changes is lent by `&mut`, one
 // that it reads by `&`; what a call answers besides its number goes to where its last parameters point. The number is that of
 // document 01's table. Refused, all that is lent stays as it is, and a value that is answered is 0. Written by tools/ctrack.py.
+#![tactic(auto)]
+
 ghost use Rattle.std.specs.Prelude.{◌≡◌, pos, length};
 ghost use Rattle.state.specs.Calls.{new_of, set_timepos, set_channel, set_cc_freq, set_pb_freq};
 ghost use Rattle.budget.specs.Budgets.{new_budget};
@@ -307,7 +309,7 @@ fn shape_of(kind: SineType) -> u32
 }
 
 // What a cycle over time answers, in numbers: `found` is 1 where it has a value, else 0.
-#[derive(Drop)]
+#[derive(Clone, Copy)]
 pub struct CycleTold {
     pub code: u32,
     pub found: u32,

@@ -2,6 +2,8 @@
 // the program that stood there into events at the start: `play_from`, as the Rust has it, and `full_cut`, which keeps
 // the bend too and puts what it folds first. Both work in place, in passes over the list from front to back. In `play_from`
 // the last event in list order counts; in `full_cut` the latest, whatever the list's order.
+#![tactic(auto)]
+
 ghost use Rattle.std.specs.Prelude.{◌≡◌, true, cond, not, ◌||◌, ◌++◌, ◌+◌, ◌≤◌, length};
 ghost use Rattle.std.specs.Int.Signed.{le_z};
 ghost use Rattle.laws.specs.Lists.{all, put_first};
@@ -37,7 +39,7 @@ pub fn default_cc_value(number: i64) -> i64
 }
 
 // Of which controller, on which channel and up to which time a value is asked.
-#[derive(Drop)]
+#[derive(Clone, Copy)]
 pub struct Asked {
     pub channel: i64,
     pub time: i64,
@@ -69,7 +71,7 @@ fn value_in(events: &[i64], count: usize, a: Asked) -> i64
 
 // What `current_cc_value` answers: its number, and the value.
 #[repr(C)]
-#[derive(Drop)]
+#[derive(Clone, Copy)]
 pub struct CcValue {
     pub code: u32,
     pub value: i64,
@@ -111,7 +113,7 @@ pub fn current_cc_value(
 const CONTROLLERS: usize = 128;
 
 // A cut: its time, and whether it is the full one.
-#[derive(Drop)]
+#[derive(Clone, Copy)]
 pub struct Cut {
     pub at: i64,
     pub full: bool,
@@ -182,7 +184,7 @@ fn all_fit(events: &[i64], count: usize, c: Cut, store: usize) -> bool
 }
 
 // What is remembered of the events before a cut, in the order in which they count, beside the values of the controllers.
-#[derive(Drop)]
+#[derive(Clone, Copy)]
 pub struct Last {
     pub program: i64,
     pub channel: i64,
@@ -263,7 +265,7 @@ fn remember(events: &[i64], count: usize, c: Cut, values: &mut [i64; 128]) -> La
 }
 
 // The latest so far of some events; where none was found, `event` says what there is then.
-#[derive(Drop)]
+#[derive(Clone, Copy)]
 pub struct Latest {
     pub found: bool,
     pub event: Event,
@@ -284,7 +286,7 @@ fn later(l: Latest, e: Event, since: i64) -> Latest
 }
 
 // The latest events before a full cut: the program, the program or controller that gives the channel, and the bend.
-#[derive(Drop)]
+#[derive(Clone, Copy)]
 pub struct Standing {
     pub program: Latest,
     pub channel: Latest,
@@ -500,7 +502,7 @@ fn put_bend(events: &mut [i64], count: usize, c: Cut, last: Last) -> usize
 }
 
 // How many events a cut keeps, and how many it leaves with those that it folds.
-#[derive(Drop)]
+#[derive(Clone, Copy)]
 pub struct Parts {
     pub kept: usize,
     pub count: usize,

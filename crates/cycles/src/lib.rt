@@ -2,6 +2,8 @@
 // are due up to a time, in table order, and takes their records on; it takes one write more than fits, so that the flag
 // tells that the budget is spent, and that one is lost. A call can be told beforehand how many events it will add
 // (`owed_by`, `gains`) without going through the writes. What a series of calls leaves is specs/Promise.
+#![tactic(auto)]
+
 ghost use Rattle.std.specs.Prelude.{◌≡◌, true, ◌≤◌, ◌^◌, min, length, take};
 ghost use Rattle.std.specs.Int.Signed.{mag};
 ghost use Rattle.laws.specs.Lists.{counted, put_first};
@@ -26,7 +28,7 @@ pub const PLACES: usize = 16;
 
 // A target's cycle: its values in turn, the one at `index` next, at the time `next` and at every `length` from there.
 #[repr(C)]
-#[derive(Drop)]
+#[derive(Clone, Copy)]
 pub struct Cycle {
     pub target: i32,
     pub length: i32,
@@ -52,7 +54,7 @@ impl Cycle {
 }
 
 // What a cycle's writes are asked with: up to when, on which channel, with its target's option.
-#[derive(Drop)]
+#[derive(Clone, Copy)]
 pub struct Ask {
     pub until: i64,
     pub channel: i32,
@@ -60,7 +62,7 @@ pub struct Ask {
 }
 
 // What one write leaves: the cycle advanced, the event and whether it fits, the budget.
-#[derive(Drop)]
+#[derive(Clone, Copy)]
 pub struct Stepped {
     pub cycle: Cycle,
     pub budget: Budget,
@@ -69,7 +71,7 @@ pub struct Stepped {
 }
 
 // What a cycle's writes of one call leave, and how many they were, those that did not fit too.
-#[derive(Drop)]
+#[derive(Clone, Copy)]
 pub struct Ran {
     pub cycle: Cycle,
     pub made: u64,
@@ -84,7 +86,7 @@ pub const CYCLE_WRITES: u64 = 10000;
 pub const OPTIONS: usize = 129;
 
 // What a call is asked with: up to when, on which channel, and the option of each target.
-#[derive(Drop)]
+#[derive(Clone, Copy)]
 pub struct Round {
     pub until: i64,
     pub channel: i32,
@@ -92,7 +94,7 @@ pub struct Round {
 }
 
 // What a call leaves.
-#[derive(Drop)]
+#[derive(Clone, Copy)]
 pub struct Called {
     pub table: [Cycle; PLACES],
     pub budget: Budget,

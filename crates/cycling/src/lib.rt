@@ -1,6 +1,8 @@
 // A track's cycles, written up to a time: the call tests what it is handed in the order of document 01's table, asks by
 // division how many events it will add, and only then makes the writes that are due. The track is read and not changed; a
 // call that refuses hands back what it was given. What a series of such calls leaves is proofs/Demand.
+#![tactic(auto)]
+
 ghost use Rattle.std.specs.Prelude.{◌≡◌};
 ghost use Rattle.cycling.specs.Calls.{quick_refusal, cycled_of, cycled_list};
 
@@ -12,7 +14,7 @@ use state::{Track, cycles_of, lent_alone, track_ok};
 
 // What a cycle call answers: its number, the count of the list, the budget and the cycle table afterwards.
 #[repr(C)]
-#[derive(Drop)]
+#[derive(Clone, Copy)]
 pub struct Cycled {
     pub code: u32,
     pub count: usize,

@@ -28,7 +28,7 @@ pub fn numbers_in(room: usize, odd: usize) -> usize {
 }
 
 // What a writing call answers, how many records are in use after it, and the budget.
-#[derive(Drop)]
+#[derive(Clone, Copy)]
 pub struct Written {
     pub answer: Answer,
     pub count: usize,

@@ -1,6 +1,8 @@
 // The desk on which the calls of a script are carried out: what each call finds as the one before left it. The records
 // of the event list stand in a slice that is lent beside it, and those of call 306 in a second. Beside it stand how a call is
 // lent the list (lending), and the lists of 32 bits that calls are handed (lists).
+#![tactic(auto)]
+
 pub mod lending;
 pub mod lists;
 
@@ -16,7 +18,7 @@ pub const MOST_RECORDS: usize = 10240;
 // `named` is the parameter that a call of family 4 named. `room` records are lent and `count` are in use. `extra` and
 // `odd` say how the list is lent wrongly: a count of room + extra, and so many numbers more than whole records. `split`
 // records stand in the second slice.
-#[derive(Drop)]
+#[derive(Clone, Copy)]
 pub struct Desk {
     pub track: Track,
     pub cycles: [Cycle; PLACES],
@@ -30,7 +32,7 @@ pub struct Desk {
 }
 
 // What a call answers, and the desk that it leaves.
-#[derive(Drop)]
+#[derive(Clone, Copy)]
 pub struct Called {
     pub answer: Answer,
     pub desk: Desk,
@@ -84,7 +86,7 @@ pub fn with_cycles(desk: Desk, cycles: [Cycle; PLACES]) -> Desk {
 }
 
 // What a call on the track answers and leaves.
-#[derive(Drop)]
+#[derive(Clone, Copy)]
 pub struct Tracked {
     pub answer: Answer,
     pub track: Track,

@@ -1,6 +1,8 @@
 // A track's options, and what it writes at its own time: the calls that change a target's option, and those that draw a
 // curve or a sine into the lent list. Each tests what it is handed in the order of document 01's table and takes the track
 // apart once. A call that refuses hands back what it was given.
+#![tactic(auto)]
+
 ghost use Rattle.std.specs.Prelude.{◌≡◌, ◌≤◌, length};
 ghost use Rattle.laws.specs.Integers.{cut};
 ghost use Rattle.numbers.specs.Limits.{places};
@@ -24,7 +26,7 @@ use writing::{Outcome, at_least_one};
 
 // A target's option, or the refusal and an option in which nothing is set.
 #[repr(C)]
-#[derive(Drop)]
+#[derive(Clone, Copy)]
 pub struct OptionAnswer {
     pub code: u32,
     pub option: WriteOption,

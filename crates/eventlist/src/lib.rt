@@ -1,5 +1,7 @@
 // The event list: a slice of numbers that the caller lends, eight to a record, and the count of records that are
 // events. Each contract speaks of the slice read whole as records (`rows_of`).
+#![tactic(auto)]
+
 ghost use Rattle.std.specs.Prelude.{◌≡◌, cond, [], ◌∷◌, ◌++◌, ◌+◌, ◌≤◌, ◌<◌, length, get_or, set, take, drop};
 ghost use Rattle.std.proofs.Math.Seq.{paste};
 ghost use Rattle.std.specs.Int.Signed.{lt_z};
@@ -111,7 +113,7 @@ pub fn records_ok(events: &[i64], count: usize, store: usize) -> bool
 }
 
 // Events of a kind, and of a number where the kind is a controller's, with a time from `start` on and before `end`.
-#[derive(Drop)]
+#[derive(Clone, Copy)]
 pub struct Window {
     pub kind: i64,
     pub number: i64,
@@ -203,7 +205,7 @@ fn any_takes(windows: &[i64], e: Event) -> bool
 }
 
 // Times from `start` on and before `end`.
-#[derive(Drop)]
+#[derive(Clone, Copy)]
 struct Span {
     start: i64,
     end: i64,
@@ -272,7 +274,7 @@ fn takes(windows: &[i64], span: Span, e: Event) -> bool
 
 // What a pass over the events says before windows are taken out: whether each event may be stored, how many stand in front
 // of the first that is taken, and how many are taken.
-#[derive(Drop)]
+#[derive(Clone, Copy)]
 pub struct Seen {
     pub ok: bool,
     pub first: usize,
@@ -361,7 +363,7 @@ fn next_taken(events: &[i64], i: usize, count: usize, windows: &[i64], span: Spa
 }
 
 // What taking events out leaves: how many are left, and how many of these were moved, that is, written to another place.
-#[derive(Drop)]
+#[derive(Clone, Copy)]
 pub struct Cleared {
     pub left: usize,
     pub moved: usize,
@@ -404,7 +406,7 @@ pub fn clear_windows(events: &mut [i64], count: usize, windows: &[i64], seen: Se
 
 // What a call that takes events out answers: its number, and the count of the list afterwards.
 #[repr(C)]
-#[derive(Drop)]
+#[derive(Clone, Copy)]
 pub struct Taken {
     pub code: u32,
     pub count: usize,

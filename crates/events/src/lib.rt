@@ -2,6 +2,8 @@
 // lent beside it and never written; of the store only the length is asked.
 // The constructors of `Event` and its size are what a product calls: each tests its own numbers. Their namesakes
 // that end in `_event` make the event alone, for callers that know the numbers.
+#![tactic(auto)]
+
 ghost use Rattle.std.specs.Prelude.{◌≡◌, length};
 ghost use Rattle.laws.specs.Integers.{cut};
 ghost use Rattle.events.specs.Kinds.{is_kind, has_data, bytes_of};
@@ -29,7 +31,7 @@ pub const SYS_EX: i64 = 7;
 pub const DIRECT_SMF: i64 = 8;
 
 #[repr(C)]
-#[derive(Drop)]
+#[derive(Clone, Copy)]
 pub struct Event {
     pub kind: i64,
     pub time: i64,
@@ -43,7 +45,7 @@ pub struct Event {
 
 // What a constructor answers: 0 and the event, or the refusal's number and the event of zeros.
 #[repr(C)]
-#[derive(Drop)]
+#[derive(Clone, Copy)]
 pub struct Made {
     pub code: u32,
     pub event: Event,
@@ -51,7 +53,7 @@ pub struct Made {
 
 // An event's size: 0 and the bytes, or 4 and none.
 #[repr(C)]
-#[derive(Drop)]
+#[derive(Clone, Copy)]
 pub struct Size {
     pub code: u32,
     pub bytes: usize,

@@ -1,6 +1,8 @@
 // Velocity layers: up to sixteen numbers that are added to a note's velocity, each of which may have something reserved as a
 // note parameter has. The layers are handed in by value and handed back, advanced. Every public function tests what it is
 // handed, the layers too; where it refuses, it hands back the layers that it was given.
+#![tactic(auto)]
+
 ghost use Rattle.std.specs.Prelude.{◌≡◌, true, ◌+◌, ◌*◌, ◌<◌, ◌≤◌, ◌^◌, get_or};
 ghost use Rattle.std.specs.Int.Signed.{mag};
 ghost use Rattle.numbers.specs.Limits.{layer_limit};
@@ -19,7 +21,7 @@ use reserved::{
 pub const LAYER_LIMIT: usize = 16;
 
 #[repr(C)]
-#[derive(Drop)]
+#[derive(Clone, Copy)]
 pub struct Layer {
     pub value: i32,
     pub random: i32,
@@ -27,7 +29,7 @@ pub struct Layer {
 }
 
 #[repr(C)]
-#[derive(Drop)]
+#[derive(Clone, Copy)]
 pub struct Layers {
     pub count: usize,
     pub items: [Layer; LAYER_LIMIT],
@@ -35,7 +37,7 @@ pub struct Layers {
 
 // The layers as a call leaves them.
 #[repr(C)]
-#[derive(Drop)]
+#[derive(Clone, Copy)]
 pub struct LayersAnswer {
     pub code: u32,
     pub layers: Layers,
@@ -43,7 +45,7 @@ pub struct LayersAnswer {
 
 // The same with a note's velocity.
 #[repr(C)]
-#[derive(Drop)]
+#[derive(Clone, Copy)]
 pub struct Velocity {
     pub code: u32,
     pub value: i64,
@@ -51,7 +53,7 @@ pub struct Velocity {
 }
 
 // What one layer adds to a note, and what it then is.
-#[derive(Drop)]
+#[derive(Clone, Copy)]
 pub struct Heard {
     pub value: i32,
     pub layer: Layer,

@@ -1,6 +1,8 @@
 // The cycle table as the caller lends it: sixteen records that are advanced in place. Two loops go over the lent records, one
 // that copies them into an array and back, and one that makes the writes that are due; each calls one function on a record by
 // value a turn. A table that is not of sixteen is left alone.
+#![tactic(auto)]
+
 ghost use Rattle.std.specs.Prelude.{◌≡◌, length};
 ghost use Rattle.numbers.specs.Limits.{places};
 ghost use Rattle.cycling.specs.Calls.{round_of, cycled_of, cycled_list};
@@ -16,7 +18,7 @@ use numbers::is_time;
 use state::Track;
 
 // A walk over `size` lent records, `at` the next one: it copies each into its own sixteen, or each from there.
-#[derive(Drop)]
+#[derive(Clone, Copy)]
 pub struct Job {
     pub saves: bool,
     pub size: usize,
@@ -25,7 +27,7 @@ pub struct Job {
 }
 
 // What a turn of it leaves.
-#[derive(Drop)]
+#[derive(Clone, Copy)]
 pub struct Moved {
     pub cycle: Cycle,
     pub job: Job,
@@ -124,7 +126,7 @@ pub fn save_cycles(cycles: &mut [Cycle], table: [Cycle; PLACES])
 
 // A cycle call under way: its number, how many of the track's records are still to come, how many writes are left, the budget,
 // and the count of the list.
-#[derive(Drop)]
+#[derive(Clone, Copy)]
 pub struct Going {
     pub code: u32,
     pub used: usize,
@@ -134,7 +136,7 @@ pub struct Going {
 }
 
 // What a turn of it leaves.
-#[derive(Drop)]
+#[derive(Clone, Copy)]
 pub struct Went {
     pub cycle: Cycle,
     pub going: Going,
@@ -142,7 +144,7 @@ pub struct Went {
 
 // What a lent cycle call answers: its number, and the count of the list afterwards.
 #[repr(C)]
-#[derive(Drop)]
+#[derive(Clone, Copy)]
 pub struct Answer {
     pub code: u32,
     pub count: usize,

@@ -1,5 +1,7 @@
 // What the tape program prints, as one text in a lent buffer: the line of the refusal, or the first line and a line for each
 // event. A text goes in at a place, and the answer is the place behind it; the bytes around it stay (`Puts`).
+#![tactic(auto)]
+
 ghost use Rattle.std.specs.Prelude.{◌≡◌, ◌++◌, ◌+◌, ◌*◌, ◌≤◌, length};
 ghost use Rattle.laws.specs.Rows.{flat};
 ghost use Rattle.text.specs.Decimals.{decimal};
@@ -19,7 +21,7 @@ pub const PAGE: usize = 67697;
 pub const EVENT_ROOM: usize = 512;
 
 // How a tape ended: 0 or the number that refused record `index`, how many events there are, and the budget.
-#[derive(Drop)]
+#[derive(Clone, Copy)]
 pub struct Ending {
     pub code: u32,
     pub index: usize,

@@ -1,6 +1,8 @@
 // The track's calls as a caller lends them what they change: the budget record, and the table of sixteen cycle records. Each
 // hands what is lent to the call by value and puts back what that answers; what the call does is said there. Refused, all that
 // is lent stays as it is.
+#![tactic(auto)]
+
 ghost use Rattle.std.specs.Prelude.{◌≡◌, length};
 ghost use Rattle.drawing.specs.Calls.{draw_answer, draw_left, on_time, cc_target, pb_target, sine_for, on_sine};
 ghost use Rattle.waving.specs.Calls.{note_written, note_left};
@@ -18,7 +20,7 @@ use tables::OnNoteSine;
 
 // What the write for a note answers: its number, the count of the list and the track afterwards.
 #[repr(C)]
-#[derive(Drop)]
+#[derive(Clone, Copy)]
 pub struct NoteAnswer {
     pub code: u32,
     pub count: usize,

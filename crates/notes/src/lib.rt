@@ -1,5 +1,7 @@
 // Notes and their ends: split_note_off and normalize put after each NoteOn its NoteOff, which a score needs and a
 // track does not hold.
+#![tactic(auto)]
+
 ghost use Rattle.std.specs.Prelude.{◌≡◌, true, ◌≤◌, ◌<◌, ◌^◌, length};
 ghost use Rattle.std.specs.Int.Signed.{mag};
 ghost use Rattle.laws.specs.Lists.{all, put_first};

@@ -2,6 +2,8 @@
 // track's lists in their order. It is a run by value over the table, which gathers at most sixteen events; then the lent
 // list is asked for room, and takes them behind its own. A write that does not fit the budget is lost and ends the run:
 // earlier lists have moved on, that one and the later ones have not, and none is taken out.
+#![tactic(auto)]
+
 ghost use Rattle.std.specs.Prelude.{◌≡◌, true, false, ◌++◌, ◌+◌, ◌≤◌, ◌^◌, length, take};
 ghost use Rattle.std.specs.Int.Signed.{mag};
 ghost use Rattle.laws.specs.Lists.{put_first};
@@ -28,14 +30,14 @@ use tables::{NoteTable, OnNoteValues, no_note};
 use values::{Offer, Write, WriteOption, Wrote};
 
 // A note's beginning: when, and on which channel.
-#[derive(Drop)]
+#[derive(Clone, Copy)]
 pub struct Onset {
     pub start: i64,
     pub channel: i32,
 }
 
 // What one list's write leaves: the list, the budget, the event and whether it fits.
-#[derive(Drop)]
+#[derive(Clone, Copy)]
 pub struct Stepped {
     pub list: OnNoteValues,
     pub budget: Budget,
@@ -44,7 +46,7 @@ pub struct Stepped {
 }
 
 // What a table's lists leave at a note: the table, the budget, the first `made` of `events`, and whether a write was lost.
-#[derive(Drop)]
+#[derive(Clone, Copy)]
 pub struct Played {
     pub notes: NoteTable,
     pub budget: Budget,
@@ -55,7 +57,7 @@ pub struct Played {
 
 // What a call answers: its number, the count of the list, the budget and the track afterwards.
 #[repr(C)]
-#[derive(Drop)]
+#[derive(Clone, Copy)]
 pub struct Noted {
     pub code: u32,
     pub count: usize,
@@ -64,7 +66,7 @@ pub struct Noted {
 }
 
 // The same with the track's lists alone.
-#[derive(Drop)]
+#[derive(Clone, Copy)]
 pub struct Listed {
     pub code: u32,
     pub count: usize,

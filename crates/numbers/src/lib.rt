@@ -1,6 +1,8 @@
 // The numbers that a caller may hand in, and the two things that a write does to one: it limits it to a range
 // and spreads it by random. Each range of document 01 has one test here, both ends included; callers test
 // before they store or compute, so that nothing further in needs a `requires`.
+#![tactic(auto)]
+
 ghost use Rattle.std.specs.Prelude.{◌≡◌, ◌<◌, ◌^◌};
 ghost use Rattle.std.specs.Int.Signed.{mag};
 ghost use Rattle.laws.specs.Integers.{inside, range_of};

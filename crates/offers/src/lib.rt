@@ -2,6 +2,8 @@
 // steps after the start) and a length: the offers come from pieces, each a glide or a sine, and a wave's pieces from
 // a source that gives them one after the other, in any mode, with no list built. A walk takes an offer and keeps what
 // the next one is held against. Nothing here meets the event list.
+#![tactic(auto)]
+
 ghost use Rattle.std.specs.Prelude.{◌≡◌, cond, [], ◌∷◌, ◌+◌, ◌*◌, ◌-◌, ◌<◌, ◌^◌, pos, length, get_or};
 ghost use Rattle.values.specs.Value.{Ready, Near};
 ghost use Rattle.offers.specs.Rules.{rule_of};
@@ -18,14 +20,14 @@ use sines::SineType;
 use values::{Offer, Write};
 
 // How a piece's value goes: straight from low to high over its length, or in turns of a sine, each so many steps long.
-#[derive(Drop)]
+#[derive(Clone, Copy)]
 pub enum Shape {
     Glide,
     Turn(SineType, u64),
 }
 
 // A stretch of a curve, `len` steps long.
-#[derive(Drop)]
+#[derive(Clone, Copy)]
 pub struct Piece {
     pub low: i64,
     pub high: i64,
@@ -34,7 +36,7 @@ pub struct Piece {
 }
 
 // The last value offered, if there is one, and the budget.
-#[derive(Drop)]
+#[derive(Clone, Copy)]
 pub struct Walk {
     pub any: bool,
     pub last: i64,
@@ -42,14 +44,14 @@ pub struct Walk {
 }
 
 // A walk after an offer, and the event that is to be written, if one is.
-#[derive(Drop)]
+#[derive(Clone, Copy)]
 pub struct Taken {
     pub walk: Walk,
     pub event: Event,
     pub fits: bool,
 }
 
-#[derive(Drop)]
+#[derive(Clone, Copy)]
 pub enum Mode {
     Normal,
     Expand,
@@ -57,7 +59,7 @@ pub enum Mode {
 }
 
 // What gives a wave's triples: the place of the next, the steps left to fill, all steps, and the wave's own length.
-#[derive(Drop)]
+#[derive(Clone, Copy)]
 pub struct Source {
     pub mode: Mode,
     pub at: usize,
@@ -67,7 +69,7 @@ pub struct Source {
 }
 
 // The next piece, if there is one, and the source after it.
-#[derive(Drop)]
+#[derive(Clone, Copy)]
 pub struct Next {
     pub piece: Piece,
     pub source: Source,

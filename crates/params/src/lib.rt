@@ -1,6 +1,8 @@
 // A note parameter (velocity, gate, timing, octave, length): what it has reserved for the notes to come, and its options.
 // It is handed in by value and handed back, advanced. Every public function tests what it is handed, the parameter too;
 // where it refuses, it hands back the parameter that it was given.
+#![tactic(auto)]
+
 ghost use Rattle.std.specs.Prelude.{◌≡◌};
 ghost use Rattle.laws.specs.Integers.{range_of};
 ghost use Rattle.params.specs.Param.{fresh, ok_limits, ok_param, range_for, max_for, in_range, under_max, max_or, limited};
@@ -15,7 +17,7 @@ use reserved::{
 
 // A flag is 0 or 1: where `ranged` is 0 there is no range, where `maxed` is 0 no maximum.
 #[repr(C)]
-#[derive(Drop)]
+#[derive(Clone, Copy)]
 pub struct NoteParam {
     pub reserve: Reserve,
     pub random: i32,
@@ -30,7 +32,7 @@ pub struct NoteParam {
 
 // The parameter as a call leaves it.
 #[repr(C)]
-#[derive(Drop)]
+#[derive(Clone, Copy)]
 pub struct ParamAnswer {
     pub code: u32,
     pub param: NoteParam,
@@ -38,7 +40,7 @@ pub struct ParamAnswer {
 
 // The same with the value that a note takes.
 #[repr(C)]
-#[derive(Drop)]
+#[derive(Clone, Copy)]
 pub struct ParamValue {
     pub code: u32,
     pub value: i32,
@@ -47,21 +49,21 @@ pub struct ParamValue {
 
 // A value alone, of a call that leaves the parameter as it is.
 #[repr(C)]
-#[derive(Drop)]
+#[derive(Clone, Copy)]
 pub struct Told {
     pub code: u32,
     pub value: i32,
 }
 
 // A range, if there is one.
-#[derive(Drop)]
+#[derive(Clone, Copy)]
 pub enum Range {
     Open,
     Ends(i32, i32),
 }
 
 // A maximum, if there is one.
-#[derive(Drop)]
+#[derive(Clone, Copy)]
 pub enum Max {
     Absent,
     Most(i32),

@@ -21,7 +21,7 @@ fn random(seed: i64, value: i64, width: i64) -> Answer {
 }
 
 // What a call answers, and the budget that it leaves.
-#[derive(Drop)]
+#[derive(Clone, Copy)]
 struct Spent {
     answer: Answer,
     budget: Budget,

@@ -19,7 +19,7 @@ use script::args::{arg, as_i32, as_usize};
 use sorting::events_sort;
 
 // What a call on the list answers, how many records are in use after it, and how many stand in the second slice.
-#[derive(Drop)]
+#[derive(Clone, Copy)]
 struct Listed {
     answer: Answer,
     count: usize,

@@ -8,7 +8,7 @@ use script::answer::{Answer, done, one, refusal, two, unknown};
 use script::args::{arg, as_i32, as_u32, as_usize};
 
 // What a call answers, and the parameter that it leaves.
-#[derive(Drop)]
+#[derive(Clone, Copy)]
 struct Held {
     answer: Answer,
     param: NoteParam,

@@ -9,7 +9,7 @@ use script::answer::{Answer, one, refusal, unknown};
 const MOST_BYTES: usize = 81920;
 
 // What the call answers, and how many numbers say the output.
-#[derive(Drop)]
+#[derive(Clone, Copy)]
 pub struct Put {
     pub answer: Answer,
     pub numbers: usize,

@@ -1,6 +1,8 @@
 // What a track's notes take of its parameters and of its velocity layers, and what is set for them. Each call hands the part that it
 // is about to that part's own call, and then asks the whole track: `asked` puts that test in number 4's place. Refused, the
 // track is the one that was given.
+#![tactic(auto)]
+
 ghost use Rattle.std.specs.Prelude.{◌≡◌, cond};
 ghost use Rattle.params.specs.Calls.{clear_reserve, set_on_time, set_on_cycle, set_on_note, set_random, set_range, clear_range, set_delay, set_max, clear_max, set_repeat};
 ghost use Rattle.layers.specs.Calls.{set_vSub, set_vSub_random, set_vSub_on_time, set_vSub_on_cycle, set_vSub_on_note, apply_vSub};
@@ -26,7 +28,7 @@ pub const L: u32 = 4;
 
 // A note's value, and the track as the call leaves it.
 #[repr(C)]
-#[derive(Drop)]
+#[derive(Clone, Copy)]
 pub struct TrackValue {
     pub code: u32,
     pub value: i32,
@@ -35,7 +37,7 @@ pub struct TrackValue {
 
 // The same of a velocity with all layers added, which may be wider.
 #[repr(C)]
-#[derive(Drop)]
+#[derive(Clone, Copy)]
 pub struct TrackVelocity {
     pub code: u32,
     pub value: i64,

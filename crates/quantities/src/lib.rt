@@ -1,5 +1,7 @@
 // The variable-length quantities of Standard MIDI Files 1.0, in which a chunk has its gaps and lengths: a number below
 // 2^28 in groups of seven bits. They are put in their shortest form, and read in any form of at most four bytes.
+#![tactic(auto)]
+
 ghost use Rattle.std.specs.Prelude.{◌≡◌, cond, ◌+◌, ◌≤◌, ◌<◌, length, drop};
 ghost use Rattle.text.specs.Laying.{laid};
 ghost use Rattle.quantities.specs.Quantities.{group, lowest1, lowest2, lowest3, lowest4, quantity_top, quantity_of, quantity_in};
@@ -95,7 +97,7 @@ pub fn put_quantity(out: &mut [u8], at: usize, q: u64) -> usize
 }
 
 // What is read at a place: whether a quantity stands there, its value, and how many bytes it has.
-#[derive(Drop)]
+#[derive(Clone, Copy)]
 pub struct Quantity {
     pub ok: bool,
     pub value: u64,

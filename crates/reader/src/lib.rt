@@ -1,6 +1,8 @@
 // A track chunk of Standard MIDI Files 1.0 read into the event list. Files come from anywhere, so nothing is taken on trust: the
 // first pass goes over the bytes event by event up to the end of track or the first fault, and counts what is kept; only a
 // chunk that is well to its last byte, and whose events have room, is read into the list, by a second pass over the same steps.
+#![tactic(auto)]
+
 ghost use Rattle.std.specs.Prelude.{◌≡◌, true, false, cond, [], ◌∷◌, ℕ, ◌+◌, ◌*◌, ◌%◌, ◌≤◌, ◌<◌, pos, eqb, length, take, drop};
 ghost use Rattle.events.specs.Kinds.{note_on, note_off};
 ghost use Rattle.events.specs.Events.{plain_event};
@@ -41,7 +43,7 @@ const LATEST: u64 = 4398046511104;
 
 // What stands at a place of a body: 0 an event, 1 the end of track, 14 or 15 a fault; its bytes, the running status behind it,
 // 0 where there is none, and its gap; and of a channel's message the data bytes, the second 0 where it has none.
-#[derive(Drop)]
+#[derive(Clone, Copy)]
 struct Found {
     code: u32,
     used: usize,
@@ -317,7 +319,7 @@ fn is_kept(f: Found) -> bool
 
 // Where a pass stands: the place, the running status and the time there, how many events were kept before it, and whether one
 // of them is past the latest time.
-#[derive(Drop)]
+#[derive(Clone, Copy)]
 struct Cursor {
     at: usize,
     status: u64,
@@ -364,7 +366,7 @@ fn behind(c: Cursor, f: Found, kept: bool) -> Cursor
 
 // What the first pass knows of a body: the number, how many events are kept of it, and whether one of them is past the latest
 // time.
-#[derive(Drop)]
+#[derive(Clone, Copy)]
 struct Outline {
     code: u32,
     kept: usize,

@@ -3,7 +3,7 @@ ghost use Rattle.std.specs.Prelude.{◌≡◌, ◌≤◌};
 ghost use Rattle.reel.specs.Marks.{mark_of, width_of, has_list, order_of, is_due};
 
 // In the order of the letters below; `Turn` makes the cycles' writes.
-#[derive(Drop)]
+#[derive(Clone, Copy)]
 pub enum Mark {
     Track,
     Budget,

@@ -11,7 +11,7 @@ use text::number_at;
 
 // `x` and `y` are the first two numbers, `list` those of the list, `next` the place of the next record. What a mark does not
 // have is 0. A record that is refused has only its number, `code`.
-#[derive(Drop)]
+#[derive(Clone, Copy)]
 pub struct Record {
     pub code: u32,
     pub mark: Mark,

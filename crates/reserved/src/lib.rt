@@ -1,5 +1,7 @@
 // What a note parameter or a velocity layer has reserved for the notes to come: a curve over time, a cycle over time, or
 // a list of which each note takes the next value. A reservation is handed in by value and handed back, advanced.
+#![tactic(auto)]
+
 ghost use Rattle.std.specs.Prelude.{◌≡◌, true, ◌<◌, ◌/◌, ◌+ℤ◌, get_or};
 ghost use Rattle.laws.specs.Integers.{cut};
 ghost use Rattle.numbers.specs.Ranges.{is_time, is_stored_time, is_length};
@@ -17,7 +19,7 @@ use numbers::{is_length, is_stored_time, is_time};
 use shapes::curve_value;
 
 // How long something has been going on.
-#[derive(Drop)]
+#[derive(Clone, Copy)]
 pub enum Since {
     Before,
     Steps(u64),
@@ -47,7 +49,7 @@ fn span(length: i32) -> u64
 
 // A value for every `length` steps from `start` on, round and round.
 #[repr(C)]
-#[derive(Drop)]
+#[derive(Clone, Copy)]
 pub struct OnCycleTime {
     pub start: i64,
     pub length: i32,
@@ -56,14 +58,14 @@ pub struct OnCycleTime {
 
 // What `OnCycleTime::new` answers: 0 and the cycle, or the refusal's number and a cycle of zeros.
 #[repr(C)]
-#[derive(Drop)]
+#[derive(Clone, Copy)]
 pub struct CycleTimeAnswer {
     pub code: u32,
     pub cycle: OnCycleTime,
 }
 
 // What a cycle answers: its value at a time, that it has none then, or the number 4.
-#[derive(Drop)]
+#[derive(Clone, Copy)]
 pub enum CycleValue {
     Value(i32),
     Nothing,
@@ -157,7 +159,7 @@ impl OnCycleTime {
 }
 
 // Where a curve stands: at a value, or past its end.
-#[derive(Drop)]
+#[derive(Clone, Copy)]
 pub enum CurveValue {
     At(i32),
     Past,
@@ -217,7 +219,7 @@ pub const ON_NOTE: u32 = 3;
 // What is reserved for the notes to come: nothing, a curve over time, a cycle over time, or a list of which each
 // note takes the next value. What a kind has no use for is zero.
 #[repr(C)]
-#[derive(Drop)]
+#[derive(Clone, Copy)]
 pub struct Reserve {
     pub kind: u32,
     pub cycling: u32,
@@ -228,7 +230,7 @@ pub struct Reserve {
 }
 
 // A value for a note, and what is then reserved.
-#[derive(Drop)]
+#[derive(Clone, Copy)]
 pub struct Taken {
     pub value: i32,
     pub reserve: Reserve,
@@ -424,7 +426,7 @@ pub fn cycle_reserve(start: i64, length: i32, values: Numbers) -> Reserve
 }
 
 // A cycle's arguments taken apart: a length, and the values after it; or the number 3.
-#[derive(Drop)]
+#[derive(Clone, Copy)]
 pub struct CycleArgs {
     pub code: u32,
     pub length: i32,

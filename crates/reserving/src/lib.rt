@@ -1,6 +1,8 @@
 // What is set ahead for a target's notes and times: a list for notes, a wave or a sine for each note, a cycle. A target has
 // one reservation over all four kinds, so that every setter first takes its old ones out and then puts one at the end. A call
 // is handed the track, the sixteen cycle records by value and how many were lent; refused, it hands back what it was given.
+#![tactic(auto)]
+
 ghost use Rattle.std.specs.Prelude.{◌≡◌, true, false, cond, ◌||◌, ◌<◌};
 ghost use Rattle.numbers.specs.Limits.{places};
 ghost use Rattle.cycles.specs.Turns.{option_of};
@@ -26,7 +28,7 @@ use values::WriteOption;
 
 // The track and the cycle table as a call leaves them.
 #[repr(C)]
-#[derive(Drop)]
+#[derive(Clone, Copy)]
 pub struct Kept {
     pub code: u32,
     pub track: Track,

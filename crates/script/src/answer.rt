@@ -2,7 +2,7 @@
 use crate::pen::{Pen, first, item};
 
 // The first `count` of the values are the answer's; `known` is false for a call that is not there.
-#[derive(Drop)]
+#[derive(Clone, Copy)]
 pub struct Answer {
     pub known: bool,
     pub code: u32,

@@ -3,7 +3,7 @@
 ghost use Rattle.std.specs.Prelude.{◌+◌, ◌<◌, ◌≤◌, length};
 
 // The first `used` bytes of the buffer are not written out yet; `digest` is that of the section so far.
-#[derive(Drop)]
+#[derive(Clone, Copy)]
 pub struct Pen {
     pub used: usize,
     pub full: bool,

@@ -5,7 +5,7 @@ use text::word_at;
 
 // The bytes from `at` to `end` of the buffer are still to be read. `there` is false once a word was wanted and the
 // script had none.
-#[derive(Drop)]
+#[derive(Clone, Copy)]
 pub struct Place {
     pub at: usize,
     pub end: usize,
@@ -13,14 +13,14 @@ pub struct Place {
 }
 
 // A word, and the place past it.
-#[derive(Drop)]
+#[derive(Clone, Copy)]
 pub struct Word {
     pub value: i64,
     pub place: Place,
 }
 
 // A call's number, the count of its arguments, and the place past what was read of it.
-#[derive(Drop)]
+#[derive(Clone, Copy)]
 pub struct Head {
     pub op: i64,
     pub count: usize,

@@ -1,5 +1,7 @@
 // The value of a curve at a step, in f32 as the original computes it: it glides from `low` towards
 // `high`, and what is behind the point is cut off toward zero on both sides, so that -63.5 gives -63.
+#![tactic(auto)]
+
 ghost use Rattle.std.specs.Prelude.{◌≡◌, ◌^◌, ◌<◌, ◌≤◌, pos};
 ghost use Rattle.std.specs.Int.Signed.{mag};
 ghost use Rattle.std.specs.Float.Ieee as Ieee;

@@ -1,6 +1,8 @@
 // The sections that show a desk after a call, as docs/COMPARING.md says: which follow a call, and in which order, stands here.
 // Below are the rows of the budget and the track, and the options (numbered), the parameters (played), the tables of layers
 // and of what is reserved for targets (waiting), and the event lists (written). What they have in common is in `stored`.
+#![tactic(auto)]
+
 mod numbered;
 mod played;
 mod stored;

@@ -6,7 +6,7 @@ use desk::lists::widened;
 use script::pen::{Pen, begin, end, number};
 
 // The first `count` numbers are the row's.
-#[derive(Drop)]
+#[derive(Clone, Copy)]
 pub struct Row {
     pub count: usize,
     pub numbers: [i64; 10],
@@ -20,7 +20,7 @@ pub fn row_of(count: usize, numbers: [i64; 10]) -> Row {
 }
 
 // An entry of a table: a row, and the stored list behind it where it is `listed`.
-#[derive(Drop)]
+#[derive(Clone, Copy)]
 pub struct Entry {
     pub row: Row,
     pub listed: bool,

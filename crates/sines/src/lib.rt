@@ -1,6 +1,8 @@
 // The three shapes of a sine, in whole numbers: the values of a quarter wave come from a table, what lies
 // between two entries from the straight line between them, and nothing is rounded but the last quotient.
 // So a value is the same on every machine. The table is lent, and made once by the caller.
+#![tactic(auto)]
+
 ghost use Rattle.std.specs.Prelude.{◌≡◌, ◌+◌, ◌*◌, ◌<◌, ◌≤◌, ◌^◌, nat_abs};
 ghost use Rattle.std.specs.Int.Signed.{mag};
 ghost use Rattle.sines.specs.Table.{top, quarter_table, entry};
@@ -10,7 +12,7 @@ ghost use Rattle.sines.specs.Sine.{sin_of, lift_of, share_of, nearest, round_awa
 pub mod table;
 
 // A sine that turns once from `low` over `high` to `low`, or a quarter of one, up to `high` or down from it.
-#[derive(Drop)]
+#[derive(Clone, Copy)]
 pub enum SineType {
     Sine,
     UpSine,

@@ -1,5 +1,7 @@
 // Family 9: the desk itself, and how a script makes bad input. These calls test nothing. Numbers go into parameters and
 // layers (played), options (options) and reservations (waiting) as they stand.
+#![tactic(auto)]
+
 mod marks;
 mod options;
 mod played;

@@ -1,5 +1,7 @@
 // A tape, played: its records one after the other, each read (`reel`) and then carried out (`carrying`), over a state by value and
 // a lent list of events. The first record that is refused ends the tape.
+#![tactic(auto)]
+
 ghost use Rattle.std.specs.Prelude.{◌≡◌, ◌+◌, ◌≤◌, ◌<◌, length};
 ghost use Rattle.reel.specs.Limits.{tape_limit};
 ghost use Rattle.reel.specs.Places.{more_due};
@@ -17,7 +19,7 @@ pub const TAPE_LIMIT: usize = 16384;
 
 // `at` is the place on the tape, `index` the number of the record that stands there, `due` how many of TK and MX were read.
 // A run that was refused has its number in `code`, and its place is the tape's end.
-#[derive(Drop)]
+#[derive(Clone, Copy)]
 pub struct Run {
     pub code: u32,
     pub at: usize,

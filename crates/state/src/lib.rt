@@ -1,6 +1,8 @@
 // A track: one record of numbers by value, and the test that every public call makes of it. The events are not in it, nor are
 // the cycles, whose table the caller lends; the track only counts how many records of that table are used. A call that
 // refuses hands back the track that it was given.
+#![tactic(auto)]
+
 ghost use Rattle.std.specs.Prelude.{◌≡◌, ◌&&◌, ◌≤◌};
 ghost use Rattle.numbers.specs.Limits.{places};
 ghost use Rattle.layers.specs.Layers.{ok_layers};
@@ -23,7 +25,7 @@ use values::{WriteOption, option_ok};
 // `ccfreq` and `pbfreq` are the Rust's `cc_on_time_freq` and `pb_on_time_freq`, `step` its `qlen_is_step`, 0 or 1; v, q, t, o, l are the note
 // parameters of velocity, gate, timing, octave and length. `cycles` counts the records of the lent cycle table.
 #[repr(C)]
-#[derive(Drop)]
+#[derive(Clone, Copy)]
 pub struct Track {
     pub timebase: i32,
     pub timepos: i64,
@@ -50,7 +52,7 @@ pub struct Track {
 
 // The track as a call leaves it.
 #[repr(C)]
-#[derive(Drop)]
+#[derive(Clone, Copy)]
 pub struct TrackAnswer {
     pub code: u32,
     pub track: Track,

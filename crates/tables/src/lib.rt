@@ -1,6 +1,8 @@
 // Reservation tables: what is set ahead for a target, sixteen of each kind. A table is an array and a count; the
 // places from the count on are not read, and one that falls vacant is zeroed. A target is told apart by its key, both
 // bends being one (`cycles::key_of`).
+#![tactic(auto)]
+
 ghost use Rattle.std.specs.Prelude.{◌≡◌, ◌+◌, ◌≤◌, ◌<◌, drop, get_or};
 ghost use Rattle.laws.specs.Lists.{all};
 ghost use Rattle.laws.specs.Keys.{absent, distinct};
@@ -26,7 +28,7 @@ pub const REPEAT: u32 = 2;
 
 // The values of a target's notes, one after the other; `index` is the next. `cycling` is 0 or 1.
 #[repr(C)]
-#[derive(Drop)]
+#[derive(Clone, Copy)]
 pub struct OnNoteValues {
     pub target: i32,
     pub index: usize,
@@ -36,7 +38,7 @@ pub struct OnNoteValues {
 
 // A curve for each note of a target.
 #[repr(C)]
-#[derive(Drop)]
+#[derive(Clone, Copy)]
 pub struct OnNoteWave {
     pub target: i32,
     pub mode: u32,
@@ -45,7 +47,7 @@ pub struct OnNoteWave {
 
 // A sine for each note of a target. `shape` is 0 for a full turn, 1 and 2 for the quarter up and down.
 #[repr(C)]
-#[derive(Drop)]
+#[derive(Clone, Copy)]
 pub struct OnNoteSine {
     pub target: i32,
     pub shape: u32,
@@ -57,7 +59,7 @@ pub struct OnNoteSine {
 
 // What `OnNoteSine::new` answers: 0 and the sine, or the refusal's number and a sine of zeros.
 #[repr(C)]
-#[derive(Drop)]
+#[derive(Clone, Copy)]
 pub struct SineAnswer {
     pub code: u32,
     pub sine: OnNoteSine,
@@ -131,7 +133,7 @@ pub fn no_note() -> OnNoteValues
 
 // A table of lists for notes.
 #[repr(C)]
-#[derive(Drop)]
+#[derive(Clone, Copy)]
 pub struct NoteTable {
     pub count: usize,
     pub items: [OnNoteValues; PLACES],
@@ -216,7 +218,7 @@ pub fn no_wave() -> OnNoteWave
 
 // A table of waves for notes.
 #[repr(C)]
-#[derive(Drop)]
+#[derive(Clone, Copy)]
 pub struct WaveTable {
     pub count: usize,
     pub items: [OnNoteWave; PLACES],
@@ -336,7 +338,7 @@ impl OnNoteSine {
 
 // A table of sines for notes.
 #[repr(C)]
-#[derive(Drop)]
+#[derive(Clone, Copy)]
 pub struct SineTable {
     pub count: usize,
     pub items: [OnNoteSine; PLACES],
@@ -409,7 +411,7 @@ pub fn put_sine(table: SineTable, e: OnNoteSine) -> SineTable
 
 // A table of cycles.
 #[repr(C)]
-#[derive(Drop)]
+#[derive(Clone, Copy)]
 pub struct CycleTable {
     pub count: usize,
     pub items: [Cycle; PLACES],
@@ -500,7 +502,7 @@ pub fn cycles_ok(table: CycleTable) -> bool
 }
 
 // The keys of the targets that have a reservation, as they are gathered.
-#[derive(Drop)]
+#[derive(Clone, Copy)]
 pub struct Keys {
     pub count: usize,
     pub items: [usize; KEYS],
@@ -638,7 +640,7 @@ pub fn lone_ok(notes: NoteTable, waves: WaveTable, sines: SineTable, cycles: Cyc
 
 // Whether a table has at most sixteen records, each of which may be stored, and the keys gathered so far: with the table's behind
 // them, where it has.
-#[derive(Drop)]
+#[derive(Clone, Copy)]
 pub struct Tested {
     pub ok: bool,
     pub keys: Keys,

@@ -1,5 +1,7 @@
 // The tape program: standard input is a tape, standard output what document 01 prints of it, its events or its refusal. What is
 // printed is one proved text (`spool::print_tape`); here it is read and written.
+#![tactic(auto)]
+
 ghost use Rattle.std.specs.Prelude.{◌≡◌, length};
 
 use lines::PAGE;

@@ -1,6 +1,8 @@
 // Plays many tapes in one run, for the comparison with the Rust: standard input is a stream of tapes, each its length in four
 // bytes, little end first, and its bytes. Prints of each what the tape program prints, one after the other. Where the stream ends
 // inside a tape, or inside a length, one line says so, and nothing of that tape is played.
+#![tactic(auto)]
+
 ghost use Rattle.std.specs.Prelude.{◌≡◌, ◌+◌, ◌≤◌, ◌<◌, length};
 
 use lines::PAGE;
@@ -31,7 +33,7 @@ fn blank_page() -> [u8; PAGE]
 }
 
 // What a stream holds next: a tape of so many bytes, or its end, after so many bytes of a length.
-#[derive(Drop)]
+#[derive(Clone, Copy)]
 enum Next {
     Tape(usize),
     End(usize),

@@ -2,6 +2,8 @@
 // decimal: a number's decimal text, put into a lent buffer at a place, which the answer moves past it.
 // little: numbers of four and eight bytes, little end first.
 // What is put is said by one equation on the whole buffer (`laid`): the bytes before and behind stay.
+#![tactic(auto)]
+
 mod decimal;
 mod little;
 

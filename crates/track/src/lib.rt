@@ -1,6 +1,8 @@
 // Every call of the port that a product makes, in one crate: the track and its calls, the event list's, and the records
 // that they are handed. What stands here besides is the controller's value of a track. None has a `requires`; each
 // tests what it reads of what it is handed, answers a number of document 01's table, and changes nothing where that is not 0.
+#![tactic(auto)]
+
 ghost use Rattle.std.specs.Prelude.{◌≡◌, length};
 ghost use Rattle.track.specs.Reading.{cc_of_track};
 

@@ -1,6 +1,8 @@
 // One value, on its way into the list: what an option does to it, the clamp of its target, the event that it
 // becomes and the bytes that it takes. Curves, waves, sines, lists per note and cycles all write by `one_value`;
 // none of them knows more of an option than this room. The list itself is not met here.
+#![tactic(auto)]
+
 ghost use Rattle.std.specs.Prelude.{◌≡◌, ◌<◌, ◌^◌, pos, ◌+ℤ◌, ◌*ℤ◌};
 ghost use Rattle.std.specs.Int.Signed.{mag};
 ghost use Rattle.values.specs.Options.{ok_option, new_option, range_in, limited};
@@ -12,7 +14,7 @@ use events::Event;
 
 // What is set for a target and outlasts a write. `ranged` and `repeat` are 0 or 1.
 #[repr(C)]
-#[derive(Drop)]
+#[derive(Clone, Copy)]
 pub struct WriteOption {
     pub delay: i32,
     pub random: i32,
@@ -24,7 +26,7 @@ pub struct WriteOption {
 
 // What a write is asked with; it stays the same through a call. The target is a code: 0 to 127 the controllers, 128
 // and 129 the bends with argument 0 and 1. `time` is before the delay; `freq` is only asked by curves and sines.
-#[derive(Drop)]
+#[derive(Clone, Copy)]
 pub struct Write {
     pub target: i32,
     pub channel: i32,
@@ -34,14 +36,14 @@ pub struct Write {
 }
 
 // A value, offered so many steps after the start.
-#[derive(Drop)]
+#[derive(Clone, Copy)]
 pub struct Offer {
     pub step: u64,
     pub value: i64,
 }
 
 // What came of an offer: the event that it became, whether its bytes fit, and the budget after it.
-#[derive(Drop)]
+#[derive(Clone, Copy)]
 pub struct Wrote {
     pub budget: Budget,
     pub event: Event,
@@ -49,7 +51,7 @@ pub struct Wrote {
 }
 
 // An option's range, taken apart.
-#[derive(Drop)]
+#[derive(Clone, Copy)]
 pub enum Range {
     Open,
     Limits(i32, i32),

@@ -3,6 +3,8 @@
 // written; the list tested, what the windows take counted with it, and the room asked; then all windows taken out at once,
 // so that a kept record moves at most once, and then all events added. No target has two reservations, so this leaves what
 // writing one after the other would.
+#![tactic(auto)]
+
 ghost use Rattle.std.specs.Prelude.{◌≡◌, true, cond, ◌+◌, ◌≤◌, ◌<◌, ◌^◌, length};
 ghost use Rattle.laws.specs.Integers.{cut};
 ghost use Rattle.budget.specs.declared.Budget.{Budget};
@@ -43,7 +45,7 @@ const FIGURES: usize = 32;
 const ROOM: usize = FIGURES * WINDOW;
 
 // A wave or a sine made ready for a note; `numbers` is the wave's list.
-#[derive(Drop)]
+#[derive(Clone, Copy)]
 struct Draft {
     write: Write,
     figure: Figure,
@@ -51,7 +53,7 @@ struct Draft {
 }
 
 // What a call will do: the windows that are taken out, `count` of them, as numbers, and how many events are added.
-#[derive(Drop)]
+#[derive(Clone, Copy)]
 struct Plan {
     count: usize,
     windows: [i64; ROOM],

@@ -2,6 +2,8 @@
 // left. A list without room is refused before anything changes: where the steps alone do not show that there is room, a
 // counting run goes over the same offers, by the same step, as the writing run that then puts the events in.
 // Contracts are of the slice read whole as records, and of the budget by value.
+#![tactic(auto)]
+
 ghost use Rattle.std.specs.Prelude.{◌≡◌, false, List, [], ◌∷◌, ◌+◌, ◌≤◌, ◌<◌, ◌^◌, min, max, ltb, length};
 ghost use Rattle.std.specs.Int.Signed.{mag};
 ghost use Rattle.sines.specs.Table.{quarter_table};
@@ -29,14 +31,14 @@ use sines::SineType;
 use values::Write;
 
 // Where a write's pieces come from: a wave's source over a list of numbers, or one piece, a sine.
-#[derive(Drop)]
+#[derive(Clone, Copy)]
 pub enum Origin {
     Wave(Source),
     Sine(Piece),
 }
 
 // What a writing run leaves: the walk after it, and how many events there are.
-#[derive(Drop)]
+#[derive(Clone, Copy)]
 pub struct Written {
     pub walk: Walk,
     pub count: usize,
@@ -45,7 +47,7 @@ pub struct Written {
 // What a write answers: 0, or 4 where an event of the list may not be stored, or 7 where the list has no room; the count of
 // events and the budget after it.
 #[repr(C)]
-#[derive(Drop)]
+#[derive(Clone, Copy)]
 pub struct Outcome {
     pub code: u32,
     pub count: usize,
@@ -512,7 +514,7 @@ pub fn write_sine(
 
 // Something that is to be written, made ready: where its pieces come from, how many steps it lasts, and whether its note
 // was cut.
-#[derive(Drop)]
+#[derive(Clone, Copy)]
 pub struct Figure {
     pub origin: Origin,
     pub long: u64,
