@@ -55,7 +55,7 @@ struct Found {
 }
 
 fn faulty(code: u32) -> Found
-    ensures by_index { (t : ℕ) → tells t result ≡ fault code }
+    ensures at_each_time { (t : ℕ) → tells t result ≡ fault code }
     ensures gap_lt_quantity_top { result.gap < quantity_top }
 {
     Found {
@@ -72,7 +72,7 @@ fn faulty(code: u32) -> Found
 // A Meta event or system exclusive: as many bytes as the quantity says, which stands `used` bytes behind `from`.
 fn step_over(s: &[u8], from: usize, used: usize, gap: u64) -> Found
     requires { (from + used ≤ length s.now) × (gap < quantity_top) }
-    ensures by_index { (t : ℕ) → tells t result ≡ step_over gap used (drop (from + used) s.now) }
+    ensures at_each_time { (t : ℕ) → tells t result ≡ step_over gap used (drop (from + used) s.now) }
     ensures gap_lt_quantity_top { result.gap < quantity_top }
 {
     let at = from + used;
@@ -99,7 +99,7 @@ fn step_over(s: &[u8], from: usize, used: usize, gap: u64) -> Found
 // The end of track, from its length on.
 fn end_at(s: &[u8], from: usize, used: usize, gap: u64) -> Found
     requires { (from + used ≤ length s.now) × (gap < quantity_top) }
-    ensures by_index { (t : ℕ) → tells t result ≡ end_in gap used (drop (from + used) s.now) }
+    ensures at_each_time { (t : ℕ) → tells t result ≡ end_in gap used (drop (from + used) s.now) }
     ensures gap_lt_quantity_top { result.gap < quantity_top }
 {
     let at = from + used;
@@ -127,7 +127,7 @@ fn end_at(s: &[u8], from: usize, used: usize, gap: u64) -> Found
 // A Meta event from its type on.
 fn meta_at(s: &[u8], from: usize, used: usize, gap: u64) -> Found
     requires { (from + used ≤ length s.now) × (gap < quantity_top) }
-    ensures by_index { (t : ℕ) → tells t result ≡ meta_in gap used (drop (from + used) s.now) }
+    ensures at_each_time { (t : ℕ) → tells t result ≡ meta_in gap used (drop (from + used) s.now) }
     ensures gap_lt_quantity_top { result.gap < quantity_top }
 {
     let at = from + used;
@@ -170,7 +170,7 @@ fn sent(status: u64, first: u8, second: u8, used: usize, gap: u64) -> Found
 // The second data byte of a message.
 fn second_at(s: &[u8], from: usize, used: usize, gap: u64, status: u64, first: u8) -> Found
     requires { (from + used ≤ length s.now) × (gap < quantity_top) }
-    ensures by_index { (t : ℕ) → tells t result ≡ second_in kept_in status (t + gap) gap used first (drop (from + used) s.now) }
+    ensures at_each_time { (t : ℕ) → tells t result ≡ second_in kept_in status (t + gap) gap used first (drop (from + used) s.now) }
     ensures gap_lt_quantity_top { result.gap < quantity_top }
 {
     let at = from + used;
@@ -187,7 +187,7 @@ fn second_at(s: &[u8], from: usize, used: usize, gap: u64, status: u64, first: u
 // The data bytes of a status.
 fn message_at(s: &[u8], from: usize, used: usize, gap: u64, status: u64) -> Found
     requires { (from + used ≤ length s.now) × (gap < quantity_top) }
-    ensures by_index { (t : ℕ) → tells t result ≡ message_in kept_in status (t + gap) gap used (drop (from + used) s.now) }
+    ensures at_each_time { (t : ℕ) → tells t result ≡ message_in kept_in status (t + gap) gap used (drop (from + used) s.now) }
     ensures gap_lt_quantity_top { result.gap < quantity_top }
 {
     let at = from + used;
@@ -207,7 +207,7 @@ fn message_at(s: &[u8], from: usize, used: usize, gap: u64, status: u64) -> Foun
 // What stands behind a gap, under a running status, 0 where there is none.
 fn status_at(s: &[u8], from: usize, used: usize, gap: u64, running: u64) -> Found
     requires { (from + used ≤ length s.now) × (gap < quantity_top) }
-    ensures by_index { (t : ℕ) → tells t result ≡ status_in kept_in running (t + gap) gap used (drop (from + used) s.now) }
+    ensures at_each_time { (t : ℕ) → tells t result ≡ status_in kept_in running (t + gap) gap used (drop (from + used) s.now) }
     ensures gap_lt_quantity_top { result.gap < quantity_top }
 {
     let at = from + used;
@@ -236,7 +236,7 @@ fn status_at(s: &[u8], from: usize, used: usize, gap: u64, running: u64) -> Foun
 // The event at a place, under a running status.
 fn event_at(s: &[u8], from: usize, running: u64) -> Found
     requires { from ≤ length s.now }
-    ensures by_index { (t : ℕ) → tells t result ≡ seen_in kept_in running t (drop from s.now) }
+    ensures at_each_time { (t : ℕ) → tells t result ≡ seen_in kept_in running t (drop from s.now) }
     ensures gap_lt_quantity_top { result.gap < quantity_top }
 {
     if s.len() <= from {
@@ -288,7 +288,7 @@ fn quick_second(s: &[u8], from: usize, used: usize, gap: u64, status: u64, first
 // `event_at`, which is slower, and otherwise UNKNOWN.
 fn quick_at(s: &[u8], from: usize, running: u64) -> Found
     requires { from ≤ length s.now }
-    ensures by_index { result.code ≡ 0 → ((t : ℕ) → Counts t result (is_told result.status)) × ((t : ℕ) → tells t result ≡ seen_in kept_in running t (drop from s.now)) }
+    ensures at_each_time { result.code ≡ 0 → ((t : ℕ) → Counts t result (is_told result.status)) × ((t : ℕ) → tells t result ≡ seen_in kept_in running t (drop from s.now)) }
     ensures gap_lt_quantity_top { result.gap < quantity_top }
 {
     if s.len() - from < 4 {

@@ -1,0 +1,13 @@
+-- `has_room` meets its contract: a body whose length has four bytes is asked for its room.
+use borrow.Author.Rules.{rules}
+use borrow.Author.Tests.{lt-ltb, le-ltb}
+use Rattle.chunks.specs.Writing.{room_for}
+use Rattle.chunks.proofs.has_room.Goals as goal
+
+pub returns-then-body-ge-LENGTH_TOP : goal.returns-then-body-ge-LENGTH_TOP
+unfolding room_for
+returns-then-body-ge-LENGTH_TOP c = rw (le-ltb c.args.body 4294967296 c.if-body-ge-LENGTH_TOP.true)
+
+pub returns : goal.returns
+unfolding room_for
+returns c = rw (lt-ltb c.args.body 4294967296 c.if-body-ge-LENGTH_TOP.false)

@@ -1,0 +1,17 @@
+-- `all_fit` meets its contract: the events passed fit, so that those left decide (laws of Tests).
+use mathlib.Core.Bool.{Bool}
+use mathlib.Core.Path.{◌≡◌, refl, sym, ap, ◌∙◌}
+use Prim.Native.Nat.{◌-◌, ◌≤◌}
+use native.Mathlib.Omega.{arith}
+use lib.ListN.{get_or}
+use Rattle.laws.proofs.Tests.{Left, passed-of, failed-of, ended_of, no, yes}
+use Rattle.events.specs.Events.{zero_event}
+use Rattle.eventlist.specs.Rows.{rows_of, events_of}
+use Rattle.cutting.specs.Cuts.{fits_cut}
+use Rattle.cutting.proofs.all_fit.Given as goal
+
+abbrev pub invariant-loop-i : goal.invariant-loop-i
+invariant-loop-i l = (l.i ≤ l.count) × Left (fits_cut l.store l.c) (events_of l.events l.count) l.i
+
+abbrev pub decreases-loop-i : goal.decreases-loop-i
+decreases-loop-i l = l.count - l.i

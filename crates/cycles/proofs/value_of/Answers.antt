@@ -1,0 +1,31 @@
+-- `cycles::value_of`: the position is below the count, and that within the array.
+use mathlib.Core.Path.{refl}
+use Prim.Native.Nat.{◌≤◌, ◌^◌}
+use native.Mathlib.Omega.{arith}
+use lib.IntN.{pos}
+use lib.ListN.{get_or}
+use lib.Signed.{mag}
+use mir.Syntax.{w32}
+use mir.Val.{SFits}
+use mir.Facts.{to_z-of_z}
+use Rattle.laws.proofs.Ranges.{sized-mag}
+use Rattle.numbers.specs.Ranges.{is_number}
+use Rattle.counted.proofs.Counted.{numbers-at}
+use Rattle.cycles.specs.Due.{write_of}
+use Rattle.cycles.proofs.Rules.{sound}
+use Rattle.cycles.proofs.value_of.Goals as goal
+
+pub offset_bounds-values-i : goal.offset_bounds-values-i
+offset_bounds-values-i c = let s = sound c.args.c c.requires in omega arith
+
+pub bounds-values-i : goal.bounds-values-i
+bounds-values-i c = let s = sound c.args.c c.requires in omega arith
+
+pub returns : goal.returns
+unfolding write_of is_number
+returns c =
+    let x = c.args.c in
+    let s = sound x c.requires in
+    let f : SFits w32 (get_or x.values.items x.index (pos 0)) = record { sfits = c.result-1.given } in
+    let b : mag (get_or x.values.items x.index (pos 0)) ≤ 2 ^ 22 = sized-mag (2 ^ 22) _ (numbers-at x.values x.index s.numbers s.placed) in
+    rw (to_z-of_z f) (refl, b)

@@ -1,0 +1,26 @@
+-- `write_of`: each number of the track, read back, is itself.
+use borrow.Author.Rules.{rules}
+use mir.Syntax.{w32, w64}
+use mir.Val.{SFits}
+use mir.Facts.{to_z-of_z}
+use Rattle.drawing.specs.Write.{write_of}
+use Rattle.drawing.proofs.write_of.Goals as goal
+
+pub returns : goal.returns
+unfolding write_of
+returns c =
+    let a = c.args.track in
+    let g = c.struct_told-4-1.given in
+    let target = to_z-of_z c.ranges.target in
+    let timebase : SFits w32 a.timebase = record { sfits = g.0.1 } in
+    let time : SFits w64 a.timepos = record { sfits = g.1.0.1 } in
+    let channel : SFits w32 a.channel = record { sfits = g.1.1.0.1 } in
+    let ccfreq : SFits w32 a.ccfreq = record { sfits = g.1.1.1.0.1 } in
+    let pbfreq : SFits w32 a.pbfreq = record { sfits = g.1.1.1.1.0.1 } in
+    rw (
+      rw (target, to_z-of_z ccfreq, to_z-of_z pbfreq, to_z-of_z timebase) at c.freq_for-freq.ensures,
+      rw target at c.option_of-option.ensures,
+      target,
+      to_z-of_z channel,
+      to_z-of_z time,
+    )

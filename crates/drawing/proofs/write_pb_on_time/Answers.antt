@@ -1,0 +1,17 @@
+-- `write_pb_on_time` is `write_on_time` of the target that `pb_target` names.
+use mathlib.Core.Path.{ap, ◌∙◌}
+use lib.IntN.{ℤ}
+use lib.ListN.{length}
+use mir.Syntax.{w32}
+use mir.Facts.{to_z-of_z}
+use borrow.Author.Rules.{rules, sfits_of}
+use Rattle.drawing.specs.Calls.{on_time, pb_target}
+use Rattle.drawing.proofs.Drawn.{drawn-at}
+use Rattle.drawing.proofs.write_pb_on_time.Goals as goal
+
+pub returns : goal.returns
+returns c =
+    let a = c.args in
+    drawn-at (λ (z : ℤ). on_time a.track z a.list.now a.budget a.events.now a.count (length a.store.now)) c.write_on_time.result c.write_on_time.new.1.1.1.1.0
+    (to_z-of_z {c = w32} (sfits_of c.pb_target.type_inv) ∙ c.pb_target.ensures ∙ ap pb_target (to_z-of_z c.ranges.is-big))
+    c.write_on_time.ensures

@@ -1,0 +1,26 @@
+-- `next_taken` meets its contract: none of the events passed is taken, and those that stand before the next one are counted (Leading).
+use borrow.Author.Rules.{rules}
+use mathlib.Core.Bool.{Bool, true, false, not}
+use mathlib.Core.List.{List}
+use mathlib.Core.Path.{◌≡◌, refl, sym, ap, ◌∙◌}
+use Prim.Native.Nat.{ℕ, ◌+◌, ◌-◌, ◌≤◌, ◌<◌}
+use native.Mathlib.Omega.{arith}
+use lib.IntN.{ℤ}
+use lib.ListN.{length, get_or, drop}
+use lib.Seq.{length-take-le, get_or-take}
+use Rattle.laws.specs.Moves.{in_front}
+use Rattle.laws.proofs.Leading.{one_more, no_more, at-end}
+use Rattle.events.specs.declared.Event.{Event}
+use Rattle.events.specs.Events.{zero_event}
+use Rattle.eventlist.specs.Rows.{rows_of, events_of}
+use Rattle.eventlist.specs.Windows.{windows_of, taken_by_any}
+use Rattle.eventlist.proofs.next_taken.Given as goal
+
+abbrev pub ahead : List ℤ → ℕ → List ℤ → ℕ → ℕ
+ahead l count ws j = in_front (taken_by_any (windows_of ws)) (drop j (events_of l count))
+
+abbrev pub invariant-loop-j : goal.invariant-loop-j
+invariant-loop-j l = (l.i ≤ l.j) × (l.j ≤ l.count) × (l.i + ahead l.events l.count l.windows l.i ≡ l.j + ahead l.events l.count l.windows l.j)
+
+abbrev pub decreases-loop-j : goal.decreases-loop-j
+decreases-loop-j l = l.count - l.j

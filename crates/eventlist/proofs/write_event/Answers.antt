@@ -1,0 +1,18 @@
+-- `write_event` meets its contract: as `read_event`, the part that is lent being put back (`write-part`).
+use borrow.Author.Rules.{rules}
+use native.Mathlib.Omega.{arith}
+use Rattle.eventlist.proofs.EventRows.{room, write-part}
+use Rattle.eventlist.proofs.write_event.Goals as goal
+
+pub overflow_mul-a : goal.overflow_mul-a
+overflow_mul-a c = omega (arith, room c.args.events.now c.args.i c.requires)
+
+pub overflow_add-b : goal.overflow_add-b
+overflow_add-b c = omega (arith, room c.args.events.now c.args.i c.requires)
+
+pub offset_bounds-events-a : goal.offset_bounds-events-a
+offset_bounds-events-a c = omega (arith, room c.args.events.now c.args.i c.requires)
+
+pub returns : goal.returns
+returns c =
+    write-part c.args.events.now c.args.i c.requires c.encode.new.0 c.args.e c.encode.ensures

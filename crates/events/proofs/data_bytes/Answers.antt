@@ -1,0 +1,17 @@
+-- `data_bytes` meets its contract: below 0 the length is cut off, elsewhere the cast leaves it as it is.
+use mathlib.Core.Path.{◌∙◌, ap}
+use lib.IntN.{pos, nat_abs}
+use mir.Facts.{to_z-of_z}
+use Rattle.laws.proofs.Signed.{lt-back-l, cast-up, cut_below, cut-not-below}
+use Rattle.events.proofs.data_bytes.Goals as goal
+
+pub returns-then-len-lt0 : goal.returns-then-len-lt0
+returns-then-len-lt0 c = cut_below c.args.len (lt-back-l (pos 0) c.ranges.len c.if-len-lt0.true)
+
+pub overflow_cast-result : goal.overflow_cast-result
+overflow_cast-result c = cast-up c.ranges.len c.if-len-lt0.false
+
+pub returns : goal.returns
+returns c =
+    let f = c.ranges.len in
+    ap nat_abs (to_z-of_z f) ∙ cut-not-below c.args.len (lt-back-l (pos 0) f c.if-len-lt0.false)

@@ -1,0 +1,5 @@
+use borrow.Author.Rules.{rules}
+use Rattle.events.proofs.refuse.Goals as goal
+
+pub returns : goal.returns
+returns c = rw c.zero_event.ensures

@@ -1,0 +1,14 @@
+-- `put_first`: two pairs and the end of the line.
+use native.Mathlib.Omega.{arith}
+use Rattle.lines.proofs.Putting.{puts, behind}
+use Rattle.lines.specs.Lines.{first_text}
+use borrow.Author.Rules.{rules}
+use Rattle.lines.proofs.put_first.Goals as goal
+
+pub returns : goal.returns
+unfolding first_text
+returns c =
+    let f = c.put_pair-p.ensures in
+    let g = c.put_pair-q.ensures in
+    let d = c.put_byte.ensures in
+    record { puts = behind (omega arith) (behind (omega arith) f.0 g.0) (puts d.0 d.1); upper_bound = omega (arith, f.1, g.1, d.1) }

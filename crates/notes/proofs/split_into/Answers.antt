@@ -1,0 +1,182 @@
+-- `split_into` meets its contract: the first i events stand, with their ends, at the front of `out` (`Filling`), and what
+-- is to come finds room, since it is no more than what comes of all.
+use borrow.Author.Rules.{rules}
+use mathlib.Core.Bool.{true}
+use mathlib.Core.Path.{◌≡◌, refl, sym, ap, ◌∙◌, subst}
+use mathlib.Core.List.{List}
+use Prim.Native.Nat.{ℕ, ◌+◌, ◌-◌, ◌≤◌, ◌<◌}
+use native.Mathlib.Omega.{arith}
+use lib.ListN.{length, set, take}
+use Rattle.laws.proofs.Every.{all-below}
+use Rattle.laws.proofs.Every.{all-below}
+use Rattle.laws.proofs.Every.{all-below}
+use Rattle.events.specs.declared.Event.{Event}
+use Rattle.events.specs.Events.{ok_event, zero_event}
+use Rattle.eventlist.specs.Rows.{rows_of}
+use Rattle.eventlist.specs.Sound.{ok_events}
+use Rattle.eventlist.proofs.EventRows.{length-rows_of, same_rows}
+use Rattle.notes.specs.Notes.{split_notes, is_note}
+use Rattle.notes.proofs.Near.{near}
+use Rattle.notes.proofs.Splitting.{Filling, fill_none, fill-plain, fill-note, filled, split-le, rises, count-note}
+use Rattle.notes.proofs.split_into.Goals as goal
+
+-- the two stores of a note, one after the other
+two : (l₀ l₁ : List Event) (n m : ℕ) (e f g : Event) → g ≡ f → l₁ ≡ set l₀ n e → set l₁ m g ≡ set (set l₀ n e) m f
+two l₀ l₁ n m e f g p q = rw (p, q)
+
+rows_at : (c : goal.After-write_event-arg-1) → length (rows_of c.loop-i.out) ≡ length (rows_of c.args.out.now)
+rows_at c = same_rows c.loop-i.out c.args.out.now c.loop-i.invariant.1
+
+rows_at-at-2 : (c : goal.After-off_of) → length (rows_of c.loop-i.out) ≡ length (rows_of c.args.out.now)
+rows_at-at-2 c = same_rows c.loop-i.out c.args.out.now c.loop-i.invariant.1
+
+-- after the step at i there is no more than what comes of all, for which there is room
+module _ (c : goal.After-write_event-arg-1) where
+  room : length (split_notes (take (c.loop-i.i + 1) (rows_of c.args.events.now))) ≤ length (rows_of c.args.out.now)
+  room = let h = split-le (rows_of c.args.events.now) (c.loop-i.i + 1) c.args.count (omega arith) in omega (arith, c.requires.count_in_bounds_2)
+
+  more : length (split_notes (take c.loop-i.i (rows_of c.args.events.now))) < length (split_notes (take (c.loop-i.i + 1) (rows_of c.args.events.now)))
+  more = rises (rows_of c.args.events.now) c.loop-i.i (omega arith)
+
+  here : c.loop-i.n < length (rows_of c.args.out.now)
+  here = omega (arith, room, more, c.loop-i.inv.2.counted)
+
+-- after the step at i there is no more than what comes of all, for which there is room
+module _ (c : goal.After-out-1) where
+  room-at-2 : length (split_notes (take (c.loop-i.i + 1) (rows_of c.args.events.now))) ≤ length (rows_of c.args.out.now)
+  room-at-2 = let h = split-le (rows_of c.args.events.now) (c.loop-i.i + 1) c.args.count (omega arith) in omega (arith, c.requires.count_in_bounds_2)
+
+  more-at-2 : length (split_notes (take c.loop-i.i (rows_of c.args.events.now))) < length (split_notes (take (c.loop-i.i + 1) (rows_of c.args.events.now)))
+  more-at-2 = rises (rows_of c.args.events.now) c.loop-i.i (omega arith)
+
+  here-at-2 : c.loop-i.n < length (rows_of c.args.out.now)
+  here-at-2 = omega (arith, room-at-2, more-at-2, c.loop-i.inv.2.counted)
+
+-- after the step at i there is no more than what comes of all, for which there is room
+module _ (c : goal.After-write_event-arg-then-is_note-1) where
+  stored-at-3 : ok_event c.args.store c.read_event-e.result ≡ true
+  unfolding ok_events
+  stored-at-3 =
+      let r = rows_of c.args.events.now in
+      ap (ok_event c.args.store) c.read_event-e.ensures
+      ∙ all-below (ok_event c.args.store) r c.args.count c.loop-i.i zero_event c.requires.count_in_bounds.1 (omega arith) c.requires.count_in_bounds.0
+
+-- after the step at i there is no more than what comes of all, for which there is room
+module _ (c : goal.After-off_of) where
+  room-at-4 : length (split_notes (take (c.loop-i.i + 1) (rows_of c.args.events.now))) ≤ length (rows_of c.args.out.now)
+  room-at-4 = let h = split-le (rows_of c.args.events.now) (c.loop-i.i + 1) c.args.count (omega arith) in omega (arith, c.requires.count_in_bounds_2)
+
+  further-at-4 : is_note c.read_event-e.result ≡ true → c.loop-i.n + 1 < length (rows_of c.args.out.now)
+  further-at-4 t =
+      omega (
+        arith,
+        room-at-4,
+        count-note (rows_of c.args.events.now) c.loop-i.i c.loop-i.n (omega arith) c.loop-i.inv.2.counted c.read_event-e.result c.read_event-e.ensures t,
+      )
+
+  -- the event read may be stored-at-4
+  stored-at-4 : ok_event c.args.store c.read_event-e.result ≡ true
+  unfolding ok_events
+  stored-at-4 =
+      let r = rows_of c.args.events.now in
+      ap (ok_event c.args.store) c.read_event-e.ensures
+      ∙ all-below (ok_event c.args.store) r c.args.count c.loop-i.i zero_event c.requires.count_in_bounds.1 (omega arith) c.requires.count_in_bounds.0
+
+-- after the step at i there is no more than what comes of all, for which there is room
+module _ (c : goal.After-out-then-is_note-1) where
+  room-at-5 : length (split_notes (take (c.loop-i.i + 1) (rows_of c.args.events.now))) ≤ length (rows_of c.args.out.now)
+  room-at-5 = let h = split-le (rows_of c.args.events.now) (c.loop-i.i + 1) c.args.count (omega arith) in omega (arith, c.requires.count_in_bounds_2)
+
+  more-at-5 : length (split_notes (take c.loop-i.i (rows_of c.args.events.now))) < length (split_notes (take (c.loop-i.i + 1) (rows_of c.args.events.now)))
+  more-at-5 = rises (rows_of c.args.events.now) c.loop-i.i (omega arith)
+
+  here-at-5 : c.loop-i.n < length (rows_of c.args.out.now)
+  here-at-5 = omega (arith, room-at-5, more-at-5, c.loop-i.inv.2.counted)
+
+  further-at-5 : is_note c.read_event-e.result ≡ true → c.loop-i.n + 1 < length (rows_of c.args.out.now)
+  further-at-5 t =
+      omega (
+        arith,
+        room-at-5,
+        count-note (rows_of c.args.events.now) c.loop-i.i c.loop-i.n (omega arith) c.loop-i.inv.2.counted c.read_event-e.result c.read_event-e.ensures t,
+      )
+
+  -- the event read may be stored-at-5
+  stored-at-5 : ok_event c.args.store c.read_event-e.result ≡ true
+  unfolding ok_events
+  stored-at-5 =
+      let r = rows_of c.args.events.now in
+      ap (ok_event c.args.store) c.read_event-e.ensures
+      ∙ all-below (ok_event c.args.store) r c.args.count c.loop-i.i zero_event c.requires.count_in_bounds.1 (omega arith) c.requires.count_in_bounds.0
+
+-- after the step at i there is no more than what comes of all, for which there is room
+module _ (c : goal.Else-is_note) where
+  room-at-6 : length (split_notes (take (c.loop-i.i + 1) (rows_of c.args.events.now))) ≤ length (rows_of c.args.out.now)
+  room-at-6 = let h = split-le (rows_of c.args.events.now) (c.loop-i.i + 1) c.args.count (omega arith) in omega (arith, c.requires.count_in_bounds_2)
+
+  more-at-6 : length (split_notes (take c.loop-i.i (rows_of c.args.events.now))) < length (split_notes (take (c.loop-i.i + 1) (rows_of c.args.events.now)))
+  more-at-6 = rises (rows_of c.args.events.now) c.loop-i.i (omega arith)
+
+  here-at-6 : c.loop-i.n < length (rows_of c.args.out.now)
+  here-at-6 = omega (arith, room-at-6, more-at-6, c.loop-i.inv.2.counted)
+
+pub loop-i-init : goal.loop-i-init
+loop-i-init c = (omega arith, refl, fill_none (rows_of c.args.events.now) (rows_of c.args.out.now))
+
+pub write_event-requires : goal.write_event-requires
+write_event-requires c = omega (arith, here c, rows_at c)
+
+pub overflow_add-n : goal.overflow_add-n
+overflow_add-n c = omega (arith, here-at-2 c, length-rows_of c.args.out.now)
+
+pub overflow_add-i : goal.overflow_add-i
+overflow_add-i c = omega arith
+
+pub off_of-requires : goal.off_of-requires
+off_of-requires c =
+    near c.args.store c.read_event-e.result (stored-at-3 c)
+
+pub write_event-requires-then-is_note : goal.write_event-requires-then-is_note
+write_event-requires-then-is_note c =
+    let l = same_rows c.write_event.new.0 c.loop-i.out c.write_event.auto.0 in
+    omega (arith, further-at-4 c (sym c.is_note.ensures ∙ c.if-is_note.true), rows_at-at-2 c)
+
+pub overflow_add-n-then-is_note : goal.overflow_add-n-then-is_note
+overflow_add-n-then-is_note c =
+    omega (arith, further-at-5 c (sym c.is_note.ensures ∙ c.if-is_note.true), length-rows_of c.args.out.now)
+
+pub loop-i-smaller-then-is_note : goal.loop-i-smaller-then-is_note
+loop-i-smaller-then-is_note c = omega arith
+
+pub loop-i-preserved-then-is_note : goal.loop-i-preserved-then-is_note
+loop-i-preserved-then-is_note c =
+    let t = sym c.is_note.ensures ∙ c.if-is_note.true in (
+      omega arith,
+      c.write_event-then-is_note.auto.0 ∙ c.write_event.auto.0 ∙ c.loop-i.invariant.1,
+      subst (λ (l : List Event). Filling (rows_of c.args.events.now) (rows_of c.args.out.now) l (c.loop-i.i + 1) (c.loop-i.n + 1 + 1))
+          (sym (c.write_event-then-is_note.ensures ∙ two (rows_of c.loop-i.out) _ c.loop-i.n (c.loop-i.n + 1) c.read_event-e.result _ _ c.off_of.ensures c.write_event.ensures))
+          (fill-note (rows_of c.args.events.now) (rows_of c.args.out.now) (rows_of c.loop-i.out) c.loop-i.i c.loop-i.n c.loop-i.invariant.2 (omega arith)
+          c.read_event-e.result c.read_event-e.ensures (here-at-5 c) t (further-at-5 c t)),
+    )
+
+pub loop-i-smaller : goal.loop-i-smaller
+loop-i-smaller c = omega arith
+
+pub loop-i-preserved : goal.loop-i-preserved
+loop-i-preserved c = (
+  omega arith,
+  c.write_event.auto.0 ∙ c.loop-i.invariant.1,
+  subst (λ (l : List Event). Filling (rows_of c.args.events.now) (rows_of c.args.out.now) l (c.loop-i.i + 1) (c.loop-i.n + 1))
+      (sym c.write_event.ensures)
+      (fill-plain (rows_of c.args.events.now) (rows_of c.args.out.now) (rows_of c.loop-i.out) c.loop-i.i c.loop-i.n c.loop-i.invariant.2 (omega arith)
+      c.read_event-e.result c.read_event-e.ensures (here-at-6 c) (sym c.is_note.ensures ∙ c.if-is_note.false)),
+)
+
+pub shape_of-out : goal.shape_of-out
+shape_of-out c = c.loop-i.invariant.1
+
+pub returns : goal.returns
+returns c =
+    let i : c.loop-i.i ≡ c.args.count = omega arith in
+    filled (rows_of c.args.events.now) (rows_of c.args.out.now) (rows_of c.loop-i.out) c.args.count c.loop-i.n
+    (subst (λ (k : ℕ). Filling (rows_of c.args.events.now) (rows_of c.args.out.now) (rows_of c.loop-i.out) k c.loop-i.n) i c.loop-i.invariant.2)

@@ -1,0 +1,18 @@
+-- `append_all`: the loop is proofs/Appending's; here it meets the slice and the array.
+use mathlib.Core.Path.{◌≡◌, refl, ◌∙◌}
+use Prim.Native.Nat.{◌-◌, ◌<◌}
+use native.Mathlib.Omega.{arith}
+use borrow.Author.Rules.{rules}
+use lib.ListN.{length}
+use Rattle.laws.proofs.Reading.{length-told}
+use Rattle.events.specs.Events.{zero_event}
+use Rattle.eventlist.specs.Rows.{rows_of}
+use Rattle.eventlist.proofs.EventRows.{same_rows}
+use Rattle.noting.proofs.Appending as A
+use Rattle.noting.proofs.append_all.Given as goal
+
+abbrev pub invariant-loop-i : goal.invariant-loop-i
+invariant-loop-i l = A.Appending zero_event (rows_of l.initial.events) l.new l.count l.made (rows_of l.events) l.n l.i × (length l.events ≡ length l.initial.events)
+
+abbrev pub decreases-loop-i : goal.decreases-loop-i
+decreases-loop-i l = l.made - l.i

@@ -1,0 +1,20 @@
+-- `under_max` takes the maximum apart; its test decides the definition.
+use mir.Syntax.{w32}
+use mir.Val.{SFits}
+use mir.Facts.{to_z-of_z}
+use borrow.Author.Rules.{rules, sfits_of}
+use Rattle.laws.proofs.Signed.{lt_back}
+use Rattle.params.proofs.under_max.Goals as goal
+
+pub returns-in_default : goal.returns-in_default
+returns-in_default c = rw (to_z-of_z c.ranges.value, c.in_default.is.1)
+
+pub returns-then-top-value : goal.returns-then-top-value
+returns-then-top-value c =
+    let f : SFits w32 c.in-Most.top.0.0 = sfits_of c.known_told-1-own.given.0.1 in
+    rw (to_z-of_z f, c.in-Most.top.1) (simp (lt_back f c.ranges.value c.if-top-value.true))
+
+pub returns : goal.returns
+returns c =
+    let f : SFits w32 c.in-Most.top.0.0 = sfits_of c.known_told-1-own.given.0.1 in
+    rw (to_z-of_z c.ranges.value, c.in-Most.top.1) (simp (lt_back f c.ranges.value c.if-top-value.false))

@@ -1,0 +1,11 @@
+-- `set_param_delay`: the parameter's own call, and the track.
+use mathlib.Core.Path.{ap, ap₂, ◌∙◌}
+use mir.Facts.{to_z-of_z}
+use borrow.Author.Rules.{rules}
+use Rattle.params.specs.Calls.{set_delay}
+use Rattle.playing.specs.Calls.{on_param}
+use Rattle.playing.proofs.set_param_delay.Goals as goal
+
+pub returns : goal.returns
+returns c =
+    c.param_set.ensures ∙ ap (on_param c.args.which c.args.track) (c.set_delay-after.ensures ∙ ap₂ set_delay c.param_at-param.ensures (to_z-of_z c.ranges.delay))

@@ -1,0 +1,16 @@
+-- `set_param_on_time`: the parameter's own call, and the track.
+use mathlib.Core.Path.{ap, ap₂, ◌∙◌}
+use mir.Syntax.{w64}
+use mir.Val.{SFits}
+use mir.Facts.{to_z-of_z}
+use borrow.Author.Rules.{rules, sfits_of}
+use lib.IntN.{ℤ}
+use Rattle.params.specs.declared.NoteParam.{NoteParam}
+use Rattle.params.specs.Calls.{set_on_time}
+use Rattle.playing.specs.Calls.{on_param}
+use Rattle.playing.proofs.set_param_on_time.Goals as goal
+
+pub returns : goal.returns
+returns c =
+    let f : SFits w64 c.args.track.timepos = sfits_of c.struct_told-1.given.1.0.1 in
+    c.param_set.ensures ∙ ap (on_param c.args.which c.args.track) (c.set_on_time-after.ensures ∙ ap₂ (λ (x : NoteParam) (t : ℤ). set_on_time x t c.args.values.now) c.param_at-param.ensures (to_z-of_z f))

@@ -1,0 +1,11 @@
+-- `set_v_sub`: the layers' own call, and the track.
+use mathlib.Core.Path.{ap, ◌∙◌}
+use mir.Facts.{to_z-of_z}
+use borrow.Author.Rules.{rules}
+use Rattle.layers.specs.Calls.{set_vSub}
+use Rattle.playing.specs.Calls.{on_layers}
+use Rattle.playing.proofs.set_v_sub.Goals as goal
+
+pub returns : goal.returns
+returns c =
+    c.layers_set.ensures ∙ ap (on_layers c.args.track) (c.set_v_sub-after.ensures ∙ ap (set_vSub c.args.track.layers c.args.index) (to_z-of_z c.ranges.velocity))

@@ -1,0 +1,15 @@
+-- `put4`: four groups are one, and three behind it.
+use mathlib.Core.List.{[], ◌∷◌}
+use native.Mathlib.Omega.{arith}
+use borrow.Author.Rules.{rules}
+use Rattle.text.proofs.Laying.{put-behind}
+use Rattle.quantities.specs.Quantities.{followed, group, lowest3}
+use Rattle.quantities.proofs.put4.Goals as goal
+
+pub returns : goal.returns
+returns c =
+    let a = c.args in
+    let g = c.group.ensures in
+    let b = c.put_byte-p.ensures in
+    let p = c.put3.ensures in
+    put-behind a.at a.out.now (followed (group 2097152 a.q) ∷ []) (lowest3 a.q) (omega (arith, c.requires)) (rw g.0 at b.0) b.1 p.0 p.1

@@ -1,0 +1,7 @@
+use Rattle.reel.specs.Marks.{is_due}
+use borrow.Author.Rules.{rules}
+use Rattle.reel.proofs.marks.is_due.Goals as goal
+
+pub returns : goal.returns
+unfolding is_due
+returns c = rw (c.width_of_lem.ensures.0, c.order_of-o.ensures)

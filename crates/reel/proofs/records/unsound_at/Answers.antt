@@ -1,0 +1,5 @@
+use borrow.Author.Rules.{rules}
+use Rattle.reel.proofs.records.unsound_at.Goals as goal
+
+pub returns : goal.returns
+returns c = cc

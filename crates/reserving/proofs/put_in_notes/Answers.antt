@@ -1,0 +1,53 @@
+-- `put_in_notes`: the old entries go, and then a place is asked for, with a list for notes.
+use mathlib.Core.Path.{◌≡◌, refl, ap, ◌∙◌}
+use borrow.Author.Rules.{rules}
+use borrow.Author.Tests.{le-ltb, lt-ltb}
+use Rattle.tables.specs.declared.NoteTable.{NoteTable}
+use Rattle.tables.specs.declared.CycleTable.{CycleTable}
+use Rattle.tables.specs.Tables.{notes_without, notes_with, cycles_without}
+use Rattle.state.proofs.Lent.{notes-few, waves-few, sines-few, cycles-few}
+use Rattle.reserving.specs.Clearing.{cleared}
+use Rattle.reserving.specs.Setting.{note_room, with_note}
+use Rattle.reserving.proofs.Settling.{no_place, put_in}
+use Rattle.reserving.proofs.put_in_notes.Goals as goal
+
+-- how many are left
+left-count : (c : goal.Then-notes-ge-PLACES) → c.take_note-notes.result.count ≡ (notes_without c.args.track.notes c.args.k).count
+left-count c = ap (λ (t : NoteTable). t.count) c.take_note-notes.ensures
+
+-- how many are left
+left-count-at-2 : (c : goal.After-with_tables) → c.take_note-notes.result.count ≡ (notes_without c.args.track.notes c.args.k).count
+left-count-at-2 c = ap (λ (t : NoteTable). t.count) c.take_note-notes.ensures
+
+pub take_note-notes-requires : goal.take_note-notes-requires
+take_note-notes-requires c = notes-few _ _ c.requires
+
+pub returns-then-notes-ge-PLACES : goal.returns-then-notes-ge-PLACES
+unfolding cleared
+returns-then-notes-ge-PLACES c =
+    let s = c.args in
+    no_place s.track s.cycles note_room (with_note s.e) (cleared s.track s.cycles s.k) refl
+    (le-ltb _ _ (rw (left-count c) at c.if-notes-ge-PLACES.true))
+
+pub take_wave-requires : goal.take_wave-requires
+take_wave-requires c = waves-few _ _ c.requires
+
+pub take_sine-requires : goal.take_sine-requires
+take_sine-requires c = sines-few _ _ c.requires
+
+pub take_cycle-requires : goal.take_cycle-requires
+take_cycle-requires c = rw c.cycles_of-own.ensures (cycles-few _ _ c.requires)
+
+pub returns : goal.returns
+unfolding cleared
+returns c =
+    let s = c.args in
+    let b = cleared s.track s.cycles s.k in
+    c.with_tables.ensures
+    ∙ rw (
+      c.put_note.ensures ∙ ap (λ (t : NoteTable). notes_with t s.e) c.take_note-notes.ensures,
+      c.take_wave.ensures,
+      c.take_sine.ensures,
+      c.take_cycle.ensures ∙ ap (λ (t : CycleTable). cycles_without t s.k) c.cycles_of-own.ensures,
+    )
+    (put_in s.track s.cycles note_room (with_note s.e) b refl (lt-ltb _ _ (rw (left-count-at-2 c) at c.if-notes-ge-PLACES.false)))

@@ -1,0 +1,50 @@
+-- Each arm is the quarter that its key names.
+use Prim.Native.Nat.{◌%◌, ◌*◌, ◌≤◌, ◌<◌}
+use native.Mathlib.Nat.{mod-lt}
+use native.Mathlib.Omega.{arith}
+use borrow.Author.Rules.{rules}
+use borrow.Author.Tests.{ne_eqb}
+use Rattle.sines.specs.Sine.{lift_in}
+use Rattle.sines.proofs.lift_at.Goals as goal
+
+rest_le : (c : goal.In-0) → 4 * c.args.p % c.args.len ≤ c.args.len
+rest_le c = let h : 0 < c.args.len = omega arith in omega (arith, mod-lt (4 * c.args.p) h)
+
+rest_le-at-2 : (c : goal.In-1) → 4 * c.args.p % c.args.len ≤ c.args.len
+rest_le-at-2 c = let h : 0 < c.args.len = omega arith in omega (arith, mod-lt (4 * c.args.p) h)
+
+rest_le-at-3 : (c : goal.In-2) → 4 * c.args.p % c.args.len ≤ c.args.len
+rest_le-at-3 c = let h : 0 < c.args.len = omega arith in omega (arith, mod-lt (4 * c.args.p) h)
+
+rest_le-at-4 : (c : goal.In_default) → 4 * c.args.p % c.args.len ≤ c.args.len
+rest_le-at-4 c = let h : 0 < c.args.len = omega arith in omega (arith, mod-lt (4 * c.args.p) h)
+
+pub overflow_sub-len : goal.overflow_sub-len
+overflow_sub-len c = rest_le c
+
+pub sin_at-requires-in-1 : goal.sin_at-requires-in-1
+sin_at-requires-in-1 c = (omega arith, c.requires.0, rest_le-at-2 c, c.requires.2)
+
+pub overflow_sub-len-in-2 : goal.overflow_sub-len-in-2
+overflow_sub-len-in-2 c = rest_le-at-3 c
+
+pub sin_at-requires-in_default : goal.sin_at-requires-in_default
+sin_at-requires-in_default c = (omega arith, c.requires.0, rest_le-at-4 c, c.requires.2)
+
+pub returns-in-0 : goal.returns-in-0
+unfolding lift_in
+returns-in-0 c = (simp (c.in-0.is, c.sin_at.ensures.0), omega arith)
+
+pub returns-in-1 : goal.returns-in-1
+unfolding lift_in
+returns-in-1 c = (simp (c.in-1.is, c.sin_at-in-1.ensures.0), omega arith)
+
+pub returns-in-2 : goal.returns-in-2
+unfolding lift_in
+returns-in-2 c = (simp (c.in-2.is, c.sin_at-in-2.ensures.0), omega arith)
+
+pub returns-in_default : goal.returns-in_default
+unfolding lift_in
+returns-in_default c =
+    let r = c.in_default-own.rest in
+    (simp (ne_eqb _ _ r.0.0.1, ne_eqb _ _ r.0.1, ne_eqb _ _ r.1, c.sin_at-in_default.ensures.0), omega arith)

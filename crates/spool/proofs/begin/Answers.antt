@@ -1,0 +1,6 @@
+use Rattle.spool.proofs.Steps.{begun-by}
+use borrow.Author.Rules.{rules}
+use Rattle.spool.proofs.begin.Goals as goal
+
+pub returns : goal.returns
+returns c = begun-by c.blank_state-state.ensures

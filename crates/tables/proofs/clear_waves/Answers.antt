@@ -1,0 +1,32 @@
+-- `tables::clear_waves`: one more place is zeroed at each turn.
+use mathlib.Core.Path.{◌≡◌, ap}
+use mathlib.Core.List.{List}
+use Prim.Native.Nat.{◌-◌}
+use native.Mathlib.Omega.{arith}
+use borrow.Author.Rules.{rules}
+use lib.ListN.{length}
+use Rattle.laws.proofs.Taking.{Clearing, clear_none}
+use Rattle.laws.proofs.Reading.{length-told}
+use Rattle.tables.specs.declared.OnNoteWave.{OnNoteWave}
+use Rattle.tables.specs.Tables.{no_wave}
+use Rattle.tables.proofs.Closing.{clear-one, all-clear}
+use Rattle.tables.proofs.clear_waves.Goals as goal
+
+pub loop-i-init : goal.loop-i-init
+loop-i-init c =
+    let t = c.args.table in
+    let m : length t.items ≡ 16 = search (rules, length-told) in
+    clear_none (λ (x : List OnNoteWave). x) no_wave t.items t.count c.args.from c.requires.0 (omega arith)
+
+pub loop-i-preserved : goal.loop-i-preserved
+loop-i-preserved c =
+    let t = c.args.table in
+    let m : length t.items ≡ 16 = search (rules, length-told) in
+    clear-one no_wave t.items c.loop-i.items t.count c.args.from c.loop-i.i c.loop-i.invariant (omega arith) (search rules) c.no_wave.result c.no_wave.ensures
+
+pub returns : goal.returns
+returns c =
+    let t = c.args.table in
+    let m : length t.items ≡ 16 = search (rules, length-told) in
+    ap (λ (x : List OnNoteWave). record { count = c.args.from; items = x })
+    (all-clear no_wave t.items c.loop-i.items t.count c.args.from c.loop-i.i c.loop-i.invariant (omega arith) (search rules))

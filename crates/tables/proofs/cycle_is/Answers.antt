@@ -1,0 +1,18 @@
+-- `tables::cycle_is`: the target, read back, has the key.
+use mathlib.Core.Path.{ap, ◌∙◌}
+use Prim.Native.Nat.{ℕ}
+use borrow.Author.Rules.{rules}
+use lib.Dec.{eqb}
+use mir.Syntax.{w32}
+use mir.Val.{SFits}
+use mir.Facts.{to_z-of_z}
+use Rattle.cycles.specs.Due.{key}
+use Rattle.tables.specs.Tables.{cycle_at}
+use Rattle.tables.proofs.cycle_is.Goals as goal
+
+pub returns : goal.returns
+unfolding cycle_at
+returns c =
+    let a = c.args in
+    let f : SFits w32 a.e.target = record { sfits = c.struct_told-1.given.0.1 } in
+    ap (λ (n : ℕ). eqb n a.k) (c.key_of.ensures ∙ ap key (to_z-of_z f))

@@ -1,0 +1,16 @@
+-- `tables::cycles_ok`: the records so far may be stored (laws, Tests).
+use mathlib.Core.Path.{◌≡◌, refl}
+use Prim.Native.Nat.{◌-◌, ◌≤◌}
+use borrow.Author.Rules.{rules}
+use lib.ListN.{take, length}
+use Rattle.laws.proofs.Tests.{Left, passed-of, counted-over, counted-no, counted-yes, no, yes}
+use Rattle.laws.proofs.Reading.{length-told}
+use Rattle.cycles.specs.Rules.{ok_cycle}
+use Rattle.tables.specs.Tables.{ok_cycles}
+use Rattle.tables.proofs.cycles_ok.Given as goal
+
+abbrev pub invariant-loop-i : goal.invariant-loop-i
+invariant-loop-i l = (l.i ≤ l.n) × Left ok_cycle (take l.n l.table.items) l.i
+
+abbrev pub decreases-loop-i : goal.decreases-loop-i
+decreases-loop-i l = l.n - l.i

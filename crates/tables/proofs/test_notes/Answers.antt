@@ -1,0 +1,61 @@
+-- `tables::test_notes`: at each turn one more record is well, and its key stands behind those gathered (Testing).
+use mathlib.Core.Path.{◌≡◌, ap, ◌∙◌}
+use mathlib.Core.List.{[]}
+use Prim.Native.Nat.{ℕ, ◌-◌, ◌≤◌}
+use native.Mathlib.Omega.{arith}
+use borrow.Author.Rules.{rules}
+use lib.IntN.{pos}
+use lib.ListN.{length, get_or}
+use mir.Syntax.{w32}
+use mir.Val.{SFits}
+use mir.Facts.{to_z-of_z}
+use Rattle.laws.proofs.Tests.{no, yes}
+use Rattle.laws.proofs.Reading.{length-told}
+use Rattle.cycles.specs.Due.{key}
+use Rattle.tables.specs.declared.OnNoteValues.{OnNoteValues}
+use Rattle.tables.specs.Reservations.{ok_values}
+use Rattle.tables.specs.Tables.{ok_notes, key_limit}
+use Rattle.tables.proofs.Testing.{Testing, start, next, over, unfit, fit}
+use Rattle.tables.proofs.test_notes.Invariants.{key_of}
+use Rattle.tables.proofs.test_notes.Goals as goal
+
+-- what a read past the end would give
+abbrev past : OnNoteValues
+past = record { target = pos 0; index = 0; cycling = 0; values = record { count = 0; items = [] } }
+
+pub returns-then-n-gt-PLACES : goal.returns-then-n-gt-PLACES
+unfolding ok_notes
+returns-then-n-gt-PLACES c =
+    let a = c.args in
+    over ok_values key_of a.t1.items a.t1.count a.keys 16 c.if-n-gt-PLACES.true
+
+pub loop-i-init : goal.loop-i-init
+loop-i-init c =
+    let a = c.args in
+    (search rules, start ok_values key_of a.t1.items a.t1.count a.keys)
+
+pub returns-then-not-note_ok : goal.returns-then-not-note_ok
+unfolding ok_notes
+returns-then-not-note_ok c =
+    let a = c.args in
+    let e : length a.t1.items ≡ 16 = search (rules, length-told) in
+    unfit ok_values key_of a.t1.items a.t1.count a.keys c.loop-i.items c.loop-i.i c.loop-i.invariant.1 16 (search rules) e past (search rules)
+    (no c.note_ok.ensures c.if-not-note_ok.true)
+
+pub loop-i-preserved : goal.loop-i-preserved
+loop-i-preserved c =
+    let a = c.args in
+    let n : length a.t1.items ≡ 16 = search (rules, length-told) in
+    let m : length a.keys.items ≡ key_limit = search rules in
+    let f : SFits w32 (get_or a.t1.items c.loop-i.i past).target = record { sfits = c.struct_told-1.given.0.1 } in (
+      search rules,
+      next ok_values key_of a.t1.items a.t1.count a.keys c.loop-i.items c.loop-i.i c.loop-i.invariant.1 16 (search rules) n c.key_of.result past (search rules)
+          (omega (arith, c.requires, m)) (yes c.note_ok.ensures c.if-not-note_ok.false) (c.key_of.ensures ∙ ap key (to_z-of_z f)),
+    )
+
+pub returns : goal.returns
+unfolding ok_notes
+returns c =
+    let a = c.args in
+    let e : length a.t1.items ≡ 16 = search (rules, length-told) in
+    fit ok_values key_of a.t1.items a.t1.count a.keys c.loop-i.items c.loop-i.i c.loop-i.invariant.1 16 (search rules) e (search rules)

@@ -1,0 +1,28 @@
+-- The source gives the triples of the cut length, and lasts as long as they do.
+use mathlib.Core.Path.{◌≡◌, sym, ap, subst, ◌∙◌}
+use Prim.Native.Nat.{◌≤◌, ◌^◌, min}
+use native.Mathlib.Omega.{arith}
+use Rattle.budget.specs.Budgets.{step_budget}
+use Rattle.offers.specs.declared.Source.{Source}
+use Rattle.offers.specs.Pieces.{total}
+use Rattle.offers.specs.Waves.{triples, triples_of}
+use Rattle.offers.specs.Sources.{Runs}
+use Rattle.offers.proofs.Taming.{runs}
+use Rattle.writing.specs.Waves.{cut_by}
+use Rattle.writing.proofs.Writes.{wave-gives}
+use borrow.Author.Rules.{rules}
+use Rattle.writing.proofs.wave_figure.Goals as goal
+
+pub returns : goal.returns
+returns c =
+    let ts = triples c.args.numbers.now in
+    let steps : c.least-steps.result ≡ min c.args.n (step_budget c.args.b) = c.least-steps.ensures ∙ ap (min c.args.n) c.safe_iteration_limit-limit.ensures in
+    let few : c.least-steps.result ≤ 2 ^ 24 = let m = c.requires.1 in omega arith in
+    let gives = wave-gives c.args.mode ts c.least-steps.result c.start_source-source.ensures in (
+      record {
+        asked = subst (λ (x : Source). Runs x ts) (sym c.start_source-source.ensures) (runs ts c.least-steps.result c.requires.0.tame c.requires.0.few few c.args.mode);
+        long = c.wave_long-long.ensures ∙ sym (ap total gives);
+      },
+      gives ∙ ap (triples_of c.args.mode ts) steps,
+      c.is_cut.ensures ∙ ap (cut_by c.args.mode c.args.n) c.safe_iteration_limit-limit.ensures,
+    )

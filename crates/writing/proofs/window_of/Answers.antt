@@ -1,0 +1,43 @@
+use mathlib.Core.Path.{◌≡◌, ap, ◌∙◌}
+use native.Mathlib.Omega.{arith}
+use lib.IntN.{ℤ, pos, ◌+ℤ◌}
+use mir.Syntax.{w32, w64}
+use mir.Val.{SFits, to_z, of_z}
+use mir.Facts.{to_z-of_z, to_z_pos}
+use borrow.Author.Rules.{rules, sfits_of}
+use Rattle.laws.proofs.Signed.{mag-add}
+use Rattle.eventlist.specs.declared.Window.{Window}
+use Rattle.values.specs.Value.{kind_of}
+use Rattle.writing.specs.Calls.{window_of}
+use Rattle.writing.proofs.window_of.Goals as goal
+
+window : {k l n m a b d e : ℤ} → k ≡ l → n ≡ m → a ≡ b → d ≡ e → ◌≡◌ {A = Window} (record { kind = k; number = n; start = a; end = d }) (record { kind = l; number = m; start = b; end = e })
+window p q r s = cc
+
+module _ (c : goal.After-widened-number) where
+  target_is : to_z w32 (of_z w32 c.args.w.target) ≡ c.args.w.target
+  target_is = to_z-of_z {w = w32} {z = c.args.w.target} (record { sfits = c.struct_told-2-1.given.0.1 })
+
+  start-bits : to_z w64 (of_z w64 c.start_of_lem.result) ≡ c.start_of_lem.result
+  start-bits = to_z-of_z {w = w64} (sfits_of c.start_of_lem.ok)
+
+  long-is : to_z w64 c.args.long ≡ pos c.args.long
+  long-is = let r = c.requires.1 in to_z_pos w64 (omega arith)
+
+  fit : SFits w64 (c.start_of_lem.result +ℤ pos c.args.long)
+  fit =
+      let m = c.start_of_lem.ensures.1 in
+      let r = c.requires.1 in
+      omega (arith, mag-add c.start_of_lem.result (pos c.args.long))
+
+pub overflow_add-result : goal.overflow_add-result
+overflow_add-result c = rw (start-bits c, long-is c) (fit c)
+
+pub returns : goal.returns
+unfolding window_of
+returns c =
+    window
+    (to_z-of_z {w = w64} (sfits_of c.kind_of-kind.type_inv) ∙ c.kind_of-kind.ensures ∙ ap kind_of (target_is c))
+    (to_z-of_z {w = w64} (sfits_of c.widened-number.type_inv) ∙ c.widened-number.ensures.0 ∙ target_is c)
+    (start-bits c ∙ c.start_of_lem.ensures.0)
+    (rw (start-bits c, long-is c) (to_z-of_z (fit c) ∙ ap (λ (z : ℤ). z +ℤ pos c.args.long) c.start_of_lem.ensures.0))
