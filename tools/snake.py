@@ -13,14 +13,15 @@ import re
 
 WORD = r"[^\s(){}.;,:\"«»\[\]\\=⌜⌝⊢λ◌|]+"
 DECLARED = re.compile(r"^\s*(?:abbrev |unfoldable |pub |data |record )*(" + WORD + r")\s*:(?!:)", re.M)
-CAPITAL = re.compile(r"(?<=[a-z0-9])([A-Z]+)(?=[A-Z][a-z]|[^a-z]|$)|(?<=[a-z0-9])([A-Z])")
+CAPITAL = re.compile(r"(?<=[a-z0-9])([A-Z])|(?<=[A-Z])([A-Z])(?=[a-z])")
+BROUGHT = re.compile(r" as ([a-z]" + WORD + r")(?=[,}])")
 
 
 def part(word):
     """A word of a name; one that begins with a capital names a type, and stays."""
     if not re.match(r"[a-z]", word):
         return word
-    return CAPITAL.sub(lambda m: "_" + (m.group(1) or m.group(2)).lower(), word)
+    return CAPITAL.sub(lambda m: "_" + (m.group(1) or m.group(2)), word).lower()
 
 
 def respelled(name):
@@ -37,6 +38,7 @@ def main():
     source = sorted(glob.glob("crates/*/src/**/*.rt", recursive=True))
     texts = {path: read(path) for path in antt + source}
     declared = {name for path in antt for name in DECLARED.findall(texts[path])}
+    declared |= {name for path in antt + source for name in BROUGHT.findall(texts[path])}
     turn = {name: respelled(name) for name in declared if respelled(name) != name}
     # A lemma that would have its function's name gets `_lem`.
     lemma = {new: new + "_lem" for new in sorted(set(turn.values()) & declared)}

@@ -12,7 +12,7 @@ ghost use Rattle.tables.specs.Tables.{new_sine};
 ghost use Rattle.reserved.specs.Setting.{new_cycle_time};
 ghost use Rattle.laws.specs.Integers.{range_of};
 ghost use Rattle.drawing.specs.Options.{option_for, set_delay, set_random, set_range, clear_range, set_repeat};
-ghost use Rattle.params.specs.Calls.{set_delay as paramsSetDelay, set_random as paramsSetRandom, set_range as paramsSetRange, clear_range as paramsClearRange, set_repeat as paramsSetRepeat, set_on_note as paramsSetOnNote, set_on_cycle as paramsSetOnCycle, set_on_time, clear_reserve, set_max, clear_max, has_reserve, calc_on_time, calc_on_note, apply_limit, maximum_or};
+ghost use Rattle.params.specs.Calls.{set_delay as params_set_delay, set_random as params_set_random, set_range as params_set_range, clear_range as params_clear_range, set_repeat as params_set_repeat, set_on_note as params_set_on_note, set_on_cycle as params_set_on_cycle, set_on_time, clear_reserve, set_max, clear_max, has_reserve, calc_on_time, calc_on_note, apply_limit, maximum_or};
 ghost use Rattle.drawing.specs.Calls.{on_time, draw_answer, draw_left, cc_target, pb_target, sine_for, on_sine};
 ghost use Rattle.reserving.specs.Setting.{remove_reserve, set_on_note, set_on_note_wave, set_on_note_sine, set_on_cycle};
 ghost use Rattle.reserving.specs.Old.{remove_cc_on, set_cc_on_note, set_cc_on_note_wave, set_pb_on_note_wave, remove_pb_on_note_wave, remove_cc_on_note, remove_cc_on_note_wave, normal};
@@ -29,7 +29,7 @@ ghost use Rattle.reader.specs.Reading.{read_taken, read_left};
 ghost use Rattle.profile.specs.Calls.{check_answer, fit_taken, fit_left};
 ghost use Rattle.playing.specs.Which.{velocity, timing, gate, octave, span, param_of};
 ghost use Rattle.playing.specs.Calls.{value_on_time, value_on_note, on_layers, summed_up, on_param};
-ghost use Rattle.layers.specs.Calls.{set_vSub, set_vSub_random, set_vSub_on_time, set_vSub_on_cycle, set_vSub_on_note, apply_vSub};
+ghost use Rattle.layers.specs.Calls.{set_v_sub, set_v_sub_random, set_v_sub_on_time, set_v_sub_on_cycle, set_v_sub_on_note, apply_v_sub};
 ghost use Rattle.events.specs.Events.{note_event, made, voice_event, made_cc, pitch_bend_event, pitch_bend_range_event, meta_event, direct_smf_event, sysex_event, size_of};
 ghost use Rattle.params.specs.Param.{fresh};
 ghost use Rattle.layers.specs.Layers.{one_layer};
@@ -1173,7 +1173,7 @@ pub extern "C" fn dollavir_calc_l_on_note(track: &mut Track, def: i32, value: &m
 // A layer's value; nothing stays reserved for it. Refuses 4, 5.
 #[unsafe(no_mangle)]
 pub extern "C" fn dollavir_set_v_sub(track: &mut Track, index: usize, velocity: i32) -> u32
-    ensures { TrackLeft (on_layers track.old (set_vSub track.old.layers index velocity)) result track.new }
+    ensures { TrackLeft (on_layers track.old (set_v_sub track.old.layers index velocity)) result track.new }
 {
     let r = playing::set_v_sub(*track, index, velocity);
     *track = track_answer_track(r);
@@ -1183,7 +1183,7 @@ pub extern "C" fn dollavir_set_v_sub(track: &mut Track, index: usize, velocity: 
 // A layer's random width. Refuses 4, 5.
 #[unsafe(no_mangle)]
 pub extern "C" fn dollavir_set_v_sub_random(track: &mut Track, index: usize, random: i32) -> u32
-    ensures { TrackLeft (on_layers track.old (set_vSub_random track.old.layers index random)) result track.new }
+    ensures { TrackLeft (on_layers track.old (set_v_sub_random track.old.layers index random)) result track.new }
 {
     let r = playing::set_v_sub_random(*track, index, random);
     *track = track_answer_track(r);
@@ -1193,7 +1193,7 @@ pub extern "C" fn dollavir_set_v_sub_random(track: &mut Track, index: usize, ran
 // Reserves a curve for a layer, from the track's time and the velocity parameter's delay on. Refuses 3, 4, 5.
 #[unsafe(no_mangle)]
 pub extern "C" fn dollavir_set_v_sub_on_time(track: &mut Track, index: usize, values: &[i32]) -> u32
-    ensures { TrackLeft (on_layers track.old (set_vSub_on_time track.old.layers index track.old.timepos track.old.v.delay values.now))
+    ensures { TrackLeft (on_layers track.old (set_v_sub_on_time track.old.layers index track.old.timepos track.old.v.delay values.now))
         result track.new }
 {
     let r = playing::set_v_sub_on_time(*track, index, values);
@@ -1204,7 +1204,7 @@ pub extern "C" fn dollavir_set_v_sub_on_time(track: &mut Track, index: usize, va
 // Reserves a cycle for a layer, its length and then its values; nothing, where there is no value. Refuses 3, 4, 5.
 #[unsafe(no_mangle)]
 pub extern "C" fn dollavir_set_v_sub_on_cycle(track: &mut Track, index: usize, args: &[i32]) -> u32
-    ensures { TrackLeft (on_layers track.old (set_vSub_on_cycle track.old.layers index track.old.timepos track.old.v.delay args.now))
+    ensures { TrackLeft (on_layers track.old (set_v_sub_on_cycle track.old.layers index track.old.timepos track.old.v.delay args.now))
         result track.new }
 {
     let r = playing::set_v_sub_on_cycle(*track, index, args);
@@ -1216,7 +1216,7 @@ pub extern "C" fn dollavir_set_v_sub_on_cycle(track: &mut Track, index: usize, a
 // stands. Refuses 3, 4, 5.
 #[unsafe(no_mangle)]
 pub extern "C" fn dollavir_set_v_sub_on_note(track: &mut Track, index: usize, values: &[i32]) -> u32
-    ensures { TrackLeft (on_layers track.old (set_vSub_on_note track.old.layers index track.old.v.repeat values.now))
+    ensures { TrackLeft (on_layers track.old (set_v_sub_on_note track.old.layers index track.old.v.repeat values.now))
         result track.new }
 {
     let r = playing::set_v_sub_on_note(*track, index, values);
@@ -1228,7 +1228,7 @@ pub extern "C" fn dollavir_set_v_sub_on_note(track: &mut Track, index: usize, va
 // advanced. Leaves it in `value`, 0 where it refuses. Refuses 4.
 #[unsafe(no_mangle)]
 pub extern "C" fn dollavir_apply_v_sub(track: &mut Track, velocity: i32, value: &mut i64) -> u32
-    ensures { VelocityLeft (summed_up track.old (apply_vSub track.old.layers track.old.timepos velocity))
+    ensures { VelocityLeft (summed_up track.old (apply_v_sub track.old.layers track.old.timepos velocity))
         result value.new track.new }
 {
     let r = playing::apply_v_sub(*track, velocity);
@@ -1252,7 +1252,7 @@ pub extern "C" fn dollavir_set_param_on_time(track: &mut Track, which: u32, valu
 // Reserves a cycle, its length and then its values, from there on; nothing, where there is no value. Refuses 3, 4.
 #[unsafe(no_mangle)]
 pub extern "C" fn dollavir_set_param_on_cycle(track: &mut Track, which: u32, args: &[i32]) -> u32
-    ensures { TrackLeft (on_param which track.old (paramsSetOnCycle (param_of which track.old) track.old.timepos args.now))
+    ensures { TrackLeft (on_param which track.old (params_set_on_cycle (param_of which track.old) track.old.timepos args.now))
         result track.new }
 {
     let r = playing::set_param_on_cycle(*track, which, args);
@@ -1263,7 +1263,7 @@ pub extern "C" fn dollavir_set_param_on_cycle(track: &mut Track, which: u32, arg
 // Reserves a value for each of the next notes, round and round where repeat stands. Refuses 3, 4.
 #[unsafe(no_mangle)]
 pub extern "C" fn dollavir_set_param_on_note(track: &mut Track, which: u32, values: &[i32]) -> u32
-    ensures { TrackLeft (on_param which track.old (paramsSetOnNote (param_of which track.old) values.now)) result track.new }
+    ensures { TrackLeft (on_param which track.old (params_set_on_note (param_of which track.old) values.now)) result track.new }
 {
     let r = playing::set_param_on_note(*track, which, values);
     *track = track_answer_track(r);
@@ -1283,7 +1283,7 @@ pub extern "C" fn dollavir_clear_param_reserve(track: &mut Track, which: u32) ->
 // The random width of a value. Refuses 4.
 #[unsafe(no_mangle)]
 pub extern "C" fn dollavir_set_param_random(track: &mut Track, which: u32, random: i32) -> u32
-    ensures { TrackLeft (on_param which track.old (paramsSetRandom (param_of which track.old) random)) result track.new }
+    ensures { TrackLeft (on_param which track.old (params_set_random (param_of which track.old) random)) result track.new }
 {
     let r = playing::set_param_random(*track, which, random);
     *track = track_answer_track(r);
@@ -1298,7 +1298,7 @@ pub extern "C" fn dollavir_set_param_range(
     low: i32,
     high: i32,
 ) -> u32
-    ensures { TrackLeft (on_param which track.old (paramsSetRange (param_of which track.old) low high)) result track.new }
+    ensures { TrackLeft (on_param which track.old (params_set_range (param_of which track.old) low high)) result track.new }
 {
     let r = playing::set_param_range(*track, which, low, high);
     *track = track_answer_track(r);
@@ -1308,7 +1308,7 @@ pub extern "C" fn dollavir_set_param_range(
 // No range. Refuses 4.
 #[unsafe(no_mangle)]
 pub extern "C" fn dollavir_clear_param_range(track: &mut Track, which: u32) -> u32
-    ensures { TrackLeft (on_param which track.old (paramsClearRange (param_of which track.old))) result track.new }
+    ensures { TrackLeft (on_param which track.old (params_clear_range (param_of which track.old))) result track.new }
 {
     let r = playing::clear_param_range(*track, which);
     *track = track_answer_track(r);
@@ -1318,7 +1318,7 @@ pub extern "C" fn dollavir_clear_param_range(track: &mut Track, which: u32) -> u
 // The delay of what is reserved from now on. Refuses 4.
 #[unsafe(no_mangle)]
 pub extern "C" fn dollavir_set_param_delay(track: &mut Track, which: u32, delay: i32) -> u32
-    ensures { TrackLeft (on_param which track.old (paramsSetDelay (param_of which track.old) delay)) result track.new }
+    ensures { TrackLeft (on_param which track.old (params_set_delay (param_of which track.old) delay)) result track.new }
 {
     let r = playing::set_param_delay(*track, which, delay);
     *track = track_answer_track(r);
@@ -1348,7 +1348,7 @@ pub extern "C" fn dollavir_clear_param_max(track: &mut Track, which: u32) -> u32
 // Whether a list that is reserved from now on goes round: 0 or 1. Refuses 4.
 #[unsafe(no_mangle)]
 pub extern "C" fn dollavir_set_param_repeat(track: &mut Track, which: u32, repeat: u32) -> u32
-    ensures { TrackLeft (on_param which track.old (paramsSetRepeat (param_of which track.old) repeat)) result track.new }
+    ensures { TrackLeft (on_param which track.old (params_set_repeat (param_of which track.old) repeat)) result track.new }
 {
     let r = playing::set_param_repeat(*track, which, repeat);
     *track = track_answer_track(r);
@@ -1495,7 +1495,7 @@ pub extern "C" fn dollavir_param_set_on_cycle(
     timepos: i64,
     args: &[i32],
 ) -> u32
-    ensures { ParamLeft (paramsSetOnCycle param.old timepos args.now) result param.new }
+    ensures { ParamLeft (params_set_on_cycle param.old timepos args.now) result param.new }
 {
     let r = NoteParam::set_on_cycle(*param, timepos, args);
     *param = param_answer_param(r);
@@ -1505,7 +1505,7 @@ pub extern "C" fn dollavir_param_set_on_cycle(
 // Reserves a value for each of the next notes, round and round where repeat stands. Refuses 3, 4.
 #[unsafe(no_mangle)]
 pub extern "C" fn dollavir_param_set_on_note(param: &mut NoteParam, values: &[i32]) -> u32
-    ensures { ParamLeft (paramsSetOnNote param.old values.now) result param.new }
+    ensures { ParamLeft (params_set_on_note param.old values.now) result param.new }
 {
     let r = NoteParam::set_on_note(*param, values);
     *param = param_answer_param(r);
@@ -1573,7 +1573,7 @@ pub extern "C" fn dollavir_param_max_or(param: &NoteParam, def: i32, value: &mut
 // The random width of a value. Refuses 4.
 #[unsafe(no_mangle)]
 pub extern "C" fn dollavir_param_set_random(param: &mut NoteParam, random: i32) -> u32
-    ensures { ParamLeft (paramsSetRandom param.old random) result param.new }
+    ensures { ParamLeft (params_set_random param.old random) result param.new }
 {
     let r = NoteParam::set_random(*param, random);
     *param = param_answer_param(r);
@@ -1583,7 +1583,7 @@ pub extern "C" fn dollavir_param_set_random(param: &mut NoteParam, random: i32) 
 // The range of a value. Refuses 4.
 #[unsafe(no_mangle)]
 pub extern "C" fn dollavir_param_set_range(param: &mut NoteParam, low: i32, high: i32) -> u32
-    ensures { ParamLeft (paramsSetRange param.old low high) result param.new }
+    ensures { ParamLeft (params_set_range param.old low high) result param.new }
 {
     let r = NoteParam::set_range(*param, low, high);
     *param = param_answer_param(r);
@@ -1593,7 +1593,7 @@ pub extern "C" fn dollavir_param_set_range(param: &mut NoteParam, low: i32, high
 // No range. Refuses 4.
 #[unsafe(no_mangle)]
 pub extern "C" fn dollavir_param_clear_range(param: &mut NoteParam) -> u32
-    ensures { ParamLeft (paramsClearRange param.old) result param.new }
+    ensures { ParamLeft (params_clear_range param.old) result param.new }
 {
     let r = NoteParam::clear_range(*param);
     *param = param_answer_param(r);
@@ -1603,7 +1603,7 @@ pub extern "C" fn dollavir_param_clear_range(param: &mut NoteParam) -> u32
 // The delay of what is reserved from now on. Refuses 4.
 #[unsafe(no_mangle)]
 pub extern "C" fn dollavir_param_set_delay(param: &mut NoteParam, delay: i32) -> u32
-    ensures { ParamLeft (paramsSetDelay param.old delay) result param.new }
+    ensures { ParamLeft (params_set_delay param.old delay) result param.new }
 {
     let r = NoteParam::set_delay(*param, delay);
     *param = param_answer_param(r);
@@ -1633,7 +1633,7 @@ pub extern "C" fn dollavir_param_clear_max(param: &mut NoteParam) -> u32
 // Whether a list that is reserved from now on goes round: 0 or 1. Refuses 4.
 #[unsafe(no_mangle)]
 pub extern "C" fn dollavir_param_set_repeat(param: &mut NoteParam, repeat: u32) -> u32
-    ensures { ParamLeft (paramsSetRepeat param.old repeat) result param.new }
+    ensures { ParamLeft (params_set_repeat param.old repeat) result param.new }
 {
     let r = NoteParam::set_repeat(*param, repeat);
     *param = param_answer_param(r);
@@ -1652,7 +1652,7 @@ pub extern "C" fn dollavir_layers_new() -> Layers
 // A layer's value; nothing stays reserved for it. Refuses 4, 5.
 #[unsafe(no_mangle)]
 pub extern "C" fn dollavir_layers_set_v_sub(layers: &mut Layers, index: usize, velocity: i32) -> u32
-    ensures { LayersLeft (set_vSub layers.old index velocity) result layers.new }
+    ensures { LayersLeft (set_v_sub layers.old index velocity) result layers.new }
 {
     let r = Layers::set_v_sub(*layers, index, velocity);
     *layers = layers_answer_layers(r);
@@ -1666,7 +1666,7 @@ pub extern "C" fn dollavir_layers_set_v_sub_random(
     index: usize,
     random: i32,
 ) -> u32
-    ensures { LayersLeft (set_vSub_random layers.old index random) result layers.new }
+    ensures { LayersLeft (set_v_sub_random layers.old index random) result layers.new }
 {
     let r = Layers::set_v_sub_random(*layers, index, random);
     *layers = layers_answer_layers(r);
@@ -1682,7 +1682,7 @@ pub extern "C" fn dollavir_layers_set_v_sub_on_time(
     delay: i32,
     values: &[i32],
 ) -> u32
-    ensures { LayersLeft (set_vSub_on_time layers.old index timepos delay values.now) result layers.new }
+    ensures { LayersLeft (set_v_sub_on_time layers.old index timepos delay values.now) result layers.new }
 {
     let r = Layers::set_v_sub_on_time(*layers, index, timepos, delay, values);
     *layers = layers_answer_layers(r);
@@ -1699,7 +1699,7 @@ pub extern "C" fn dollavir_layers_set_v_sub_on_cycle(
     delay: i32,
     args: &[i32],
 ) -> u32
-    ensures { LayersLeft (set_vSub_on_cycle layers.old index timepos delay args.now) result layers.new }
+    ensures { LayersLeft (set_v_sub_on_cycle layers.old index timepos delay args.now) result layers.new }
 {
     let r = Layers::set_v_sub_on_cycle(*layers, index, timepos, delay, args);
     *layers = layers_answer_layers(r);
@@ -1715,7 +1715,7 @@ pub extern "C" fn dollavir_layers_set_v_sub_on_note(
     repeat: u32,
     values: &[i32],
 ) -> u32
-    ensures { LayersLeft (set_vSub_on_note layers.old index repeat values.now) result layers.new }
+    ensures { LayersLeft (set_v_sub_on_note layers.old index repeat values.now) result layers.new }
 {
     let r = Layers::set_v_sub_on_note(*layers, index, repeat, values);
     *layers = layers_answer_layers(r);
@@ -1731,7 +1731,7 @@ pub extern "C" fn dollavir_layers_apply_v_sub(
     velocity: i32,
     value: &mut i64,
 ) -> u32
-    ensures { LayersSum (apply_vSub layers.old timepos velocity) result value.new layers.new }
+    ensures { LayersSum (apply_v_sub layers.old timepos velocity) result value.new layers.new }
 {
     let r = Layers::apply_v_sub(*layers, timepos, velocity);
     *value = velocity_value(r);

@@ -19,7 +19,7 @@ use Rattle.layers.specs.declared.Layer.{Layer}
 use Rattle.layers.specs.declared.Layers.{Layers}
 use Rattle.layers.specs.declared.Velocity.{Velocity}
 use Rattle.layers.specs.Layers.{ok_layer, ok_layers, from_note, from_time, heard_of, advanced, first}
-use Rattle.layers.specs.Calls.{summed, apply_vSub}
+use Rattle.layers.specs.Calls.{summed, apply_v_sub}
 use Rattle.layers.proofs.Parts.{layer-value, layer-random, layer-reserve, layers-some, layers-few, layers-each, layers-count}
 
 module _ (t : ℤ) (a : Layer) (e : ok_layer a ≡ true) where
@@ -41,8 +41,8 @@ module _ (l : Layers) (m : length l.items ≡ layer_limit) (e : ok_layers l ≡ 
       rw (layers-some l e, layers-few l e, take_at (map (advanced t) (first l)) (drop l.count l.items) l.count k)
       (all_map ok_layer ok_layer (advanced t) (heard-kept t) (first l) (layers-each l e))
 
-  pub apply-kept : ok_layers (apply_vSub l t v).layers ≡ true
-  unfolding apply_vSub
+  pub apply-kept : ok_layers (apply_v_sub l t v).layers ≡ true
+  unfolding apply_v_sub
   apply-kept = go (ok_layers l && is_time t && is_number v)
     where
       go : (b : Bool) → ok_layers (cond {A = Velocity} b (summed l t v) (record { code = 4; value = pos 0; layers = l })).layers ≡ true

@@ -24,7 +24,7 @@ use Rattle.layers.specs.declared.Layer.{Layer}
 use Rattle.layers.specs.declared.Layers.{Layers}
 use Rattle.layers.specs.declared.LayersAnswer.{LayersAnswer}
 use Rattle.layers.specs.Layers.{ok_layer, ok_layers, changed, value_set, random_set, reserve_set}
-use Rattle.layers.specs.Calls.{layer_demand, answered, set_vSub, set_vSub_random, set_vSub_on_time, set_vSub_on_cycle, set_vSub_on_note}
+use Rattle.layers.specs.Calls.{layer_demand, answered, set_v_sub, set_v_sub_random, set_v_sub_on_time, set_v_sub_on_cycle, set_v_sub_on_note}
 use Rattle.layers.proofs.Parts.{layer-value, layer-random, layer-reserve}
 use Rattle.layers.proofs.Grown.{changed-kept}
 
@@ -61,14 +61,14 @@ module _ (l : Layers) (m : length l.items ≡ layer_limit) (e : ok_layers l ≡ 
       go true q = h (eqb-true n 0 q)
       go false q = e
 
-  pub set-v-sub-kept : (v : ℤ) → ok_layers (set_vSub l i v).layers ≡ true
+  pub set-v-sub-kept : (v : ℤ) → ok_layers (set_v_sub l i v).layers ≡ true
   set-v-sub-kept v =
       answered-kept _ _
       (λ z.
       let p = passed (ok_layers l && is_number v) (leb layer_limit i) z in
       changed-kept l m e i (leb-false layer_limit i p.1) (value_set v) (λ a o. value_set_lem a o v (right (ok_layers l) (is_number v) p.0)))
 
-  pub set-v-sub-random-kept : (n : ℤ) → ok_layers (set_vSub_random l i n).layers ≡ true
+  pub set-v-sub-random-kept : (n : ℤ) → ok_layers (set_v_sub_random l i n).layers ≡ true
   set-v-sub-random-kept n =
       answered-kept _ _
       (λ z.
@@ -84,14 +84,14 @@ module _ (l : Layers) (m : length l.items ≡ layer_limit) (e : ok_layers l ≡ 
       let p = passed ok (leb layer_limit i) q.1 in
       changed-kept l m e i (leb-false layer_limit i p.1) (reserve_set r) (λ a o. reserve-set a o r (h (ltb-false list_limit (length v) q.0) p.0)))
 
-  pub set-v-sub-on-note-kept : (c : ℕ) (v : List ℤ) → ok_layers (set_vSub_on_note l i c v).layers ≡ true
+  pub set-v-sub-on-note-kept : (c : ℕ) (v : List ℤ) → ok_layers (set_v_sub_on_note l i c v).layers ≡ true
   set-v-sub-on-note-kept c v =
       listed_kept v (ok_layers l && leb c 1 && all is_number v) (notes_from c (numbers v))
       (λ k o.
       notes-kept (numbers v) c (right (ok_layers l) (leb c 1) (left (ok_layers l && leb c 1) (all is_number v) o))
       (laid-numbers v k ∙ right (ok_layers l && leb c 1) (all is_number v) o))
 
-  pub set-v-sub-on-time-kept : (t d : ℤ) (v : List ℤ) → ok_layers (set_vSub_on_time l i t d v).layers ≡ true
+  pub set-v-sub-on-time-kept : (t d : ℤ) (v : List ℤ) → ok_layers (set_v_sub_on_time l i t d v).layers ≡ true
   set-v-sub-on-time-kept t d v =
       listed_kept v (ok_layers l && is_time t && is_length d && is_curve v) (curve_from (t +ℤ d) (numbers v))
       (λ k o.
@@ -100,7 +100,7 @@ module _ (l : Layers) (m : length l.items ≡ layer_limit) (e : ok_layers l ≡ 
       (delayed-stored t d (right (ok_layers l) (is_time t) (left (ok_layers l && is_time t) (is_length d) g)) (right (ok_layers l && is_time t) (is_length d) g))
       (laid-curve v k ∙ right (ok_layers l && is_time t && is_length d) (is_curve v) o))
 
-  pub set-v-sub-on-cycle-kept : (t d : ℤ) (v : List ℤ) → ok_layers (set_vSub_on_cycle l i t d v).layers ≡ true
+  pub set-v-sub-on-cycle-kept : (t d : ℤ) (v : List ℤ) → ok_layers (set_v_sub_on_cycle l i t d v).layers ≡ true
   set-v-sub-on-cycle-kept t d v =
       listed_kept v (ok_layers l && is_time t && is_length d && is_length (length_of v) && all is_number (rest_of v)) (cycle_for (t +ℤ d) (length_of v) (numbers (rest_of v)))
       (λ k o.

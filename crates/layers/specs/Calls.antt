@@ -21,26 +21,26 @@ layer_demand i ok = cond ok (cond (leb layer_limit i) 5 0) 4
 unfoldable pub answered : ℕ → Layers → ℕ → (Layer → Layer) → LayersAnswer
 answered n l i f = cond (eqb n 0) (record { code = 0; layers = changed l i f }) (record { code = n; layers = l })
 
-abbrev pub set_vSub : Layers → ℕ → ℤ → LayersAnswer
-set_vSub l i v = answered (layer_demand i (ok_layers l && is_number v)) l i (value_set v)
+abbrev pub set_v_sub : Layers → ℕ → ℤ → LayersAnswer
+set_v_sub l i v = answered (layer_demand i (ok_layers l && is_number v)) l i (value_set v)
 
-abbrev pub set_vSub_random : Layers → ℕ → ℤ → LayersAnswer
-set_vSub_random l i n = answered (layer_demand i (ok_layers l && is_random n)) l i (random_set n)
+abbrev pub set_v_sub_random : Layers → ℕ → ℤ → LayersAnswer
+set_v_sub_random l i n = answered (layer_demand i (ok_layers l && is_random n)) l i (random_set n)
 
 -- starts take the velocity parameter's delay, repeats its repeat
-abbrev pub set_vSub_on_time : Layers → ℕ → ℤ → ℤ → List ℤ → LayersAnswer
-set_vSub_on_time l i t d v =
+abbrev pub set_v_sub_on_time : Layers → ℕ → ℤ → ℤ → List ℤ → LayersAnswer
+set_v_sub_on_time l i t d v =
     answered (list_demand v (layer_demand i (ok_layers l && is_time t && is_length d && is_curve v))) l i
     (reserve_set (curve_from (t +ℤ d) (numbers v)))
 
-abbrev pub set_vSub_on_cycle : Layers → ℕ → ℤ → ℤ → List ℤ → LayersAnswer
-set_vSub_on_cycle l i t d v =
+abbrev pub set_v_sub_on_cycle : Layers → ℕ → ℤ → ℤ → List ℤ → LayersAnswer
+set_v_sub_on_cycle l i t d v =
     answered
     (list_demand v (layer_demand i (ok_layers l && is_time t && is_length d && is_length (length_of v) && all is_number (rest_of v)))) l i
     (reserve_set (cycle_for (t +ℤ d) (length_of v) (numbers (rest_of v))))
 
-abbrev pub set_vSub_on_note : Layers → ℕ → ℕ → List ℤ → LayersAnswer
-set_vSub_on_note l i p v =
+abbrev pub set_v_sub_on_note : Layers → ℕ → ℕ → List ℤ → LayersAnswer
+set_v_sub_on_note l i p v =
     answered (list_demand v (layer_demand i (ok_layers l && leb p 1 && all is_number v))) l i (reserve_set (notes_from p (numbers v)))
 
 -- a sum and its layers, once layer i is added too
@@ -61,6 +61,6 @@ summed l t v =
       layers = with_items l.count (map (advanced t) (first l) ++ drop l.count l.items);
     }
 
-unfoldable pub apply_vSub : Layers → ℤ → ℤ → Velocity
-apply_vSub l t v =
+unfoldable pub apply_v_sub : Layers → ℤ → ℤ → Velocity
+apply_v_sub l t v =
     cond (ok_layers l && is_time t && is_number v) (summed l t v) (record { code = 4; value = pos 0; layers = l })

@@ -8,7 +8,7 @@ ghost use Rattle.std.specs.Int.Signed.{mag};
 ghost use Rattle.numbers.specs.Limits.{layer_limit};
 ghost use Rattle.numbers.specs.Ranges.{is_time};
 ghost use Rattle.layers.specs.Layers.{fresh_layer, one_layer, ok_layer, ok_layers, grown, changed, value_set, random_set, reserve_set, heard_of};
-ghost use Rattle.layers.specs.Calls.{further, set_vSub, set_vSub_random, set_vSub_on_time, set_vSub_on_cycle, set_vSub_on_note, summed, apply_vSub};
+ghost use Rattle.layers.specs.Calls.{further, set_v_sub, set_v_sub_random, set_v_sub_on_time, set_v_sub_on_cycle, set_v_sub_on_note, summed, apply_v_sub};
 
 use counted::{curve_ok, numbers_of, numbers_ok};
 use numbers::{is_length, is_number, is_random, is_time};
@@ -244,7 +244,7 @@ impl Layers {
 
     // A layer's value; nothing stays reserved for it. Refuses 4, 5.
     pub fn set_v_sub(self, index: usize, velocity: i32) -> LayersAnswer
-        ensures { result ≡ set_vSub self index velocity }
+        ensures { result ≡ set_v_sub self index velocity }
     {
         let a = layers_ok(self);
         let b = is_number(velocity);
@@ -269,7 +269,7 @@ impl Layers {
 
     // A layer's random width. Refuses 4, 5.
     pub fn set_v_sub_random(self, index: usize, random: i32) -> LayersAnswer
-        ensures { result ≡ set_vSub_random self index random }
+        ensures { result ≡ set_v_sub_random self index random }
     {
         let a = layers_ok(self);
         let b = is_random(random);
@@ -300,7 +300,7 @@ impl Layers {
         delay: i32,
         values: &[i32],
     ) -> LayersAnswer
-        ensures { result ≡ set_vSub_on_time self index timepos delay values.now }
+        ensures { result ≡ set_v_sub_on_time self index timepos delay values.now }
     {
         let listed = numbers_of(values);
         if listed.code != 0 {
@@ -344,7 +344,7 @@ impl Layers {
         delay: i32,
         args: &[i32],
     ) -> LayersAnswer
-        ensures { result ≡ set_vSub_on_cycle self index timepos delay args.now }
+        ensures { result ≡ set_v_sub_on_cycle self index timepos delay args.now }
     {
         let listed = cycle_args(args);
         if listed.code != 0 {
@@ -383,7 +383,7 @@ impl Layers {
     // Reserves a value of a layer for each of the next notes, round and round where the velocity parameter's repeat stands.
     // Refuses 3, 4, 5.
     pub fn set_v_sub_on_note(self, index: usize, repeat: u32, values: &[i32]) -> LayersAnswer
-        ensures { result ≡ set_vSub_on_note self index repeat values.now }
+        ensures { result ≡ set_v_sub_on_note self index repeat values.now }
     {
         let listed = numbers_of(values);
         if listed.code != 0 {
@@ -418,7 +418,7 @@ impl Layers {
 
     // A note's velocity at `timepos`: the given one and what every layer adds to it. The layers come back advanced. Refuses 4.
     pub fn apply_v_sub(self, timepos: i64, velocity: i32) -> Velocity
-        ensures { result ≡ apply_vSub self timepos velocity }
+        ensures { result ≡ apply_v_sub self timepos velocity }
     {
         let a = layers_ok(self);
         let b = is_time(timepos);

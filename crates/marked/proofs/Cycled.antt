@@ -21,7 +21,7 @@ use Rattle.values.specs.Clamp.{top_of, scaled_for, clamped}
 use Rattle.values.specs.Value.{event_for, start_of, time_of, event_of_offer}
 use Rattle.cycles.specs.Due.{write_of, advanced, run, after, gap, steps, due_count, takes, leaves, code_of}
 use Rattle.cycles.specs.Rules.{ok_cycle}
-use Rattle.cycles.specs.Calls.{limit, wrote, push, share, moved as tableMoved, call}
+use Rattle.cycles.specs.Calls.{limit, wrote, push, share, moved as table_moved, call}
 use Rattle.cycles.specs.Turns.{turn, called_state}
 use Rattle.tables.specs.Tables.{ok_cycles, lone}
 use Rattle.state.specs.Track.{new_track}
@@ -68,7 +68,7 @@ abbrev Scarce : Kept → Type 0
 Scarce k = CycleLeaves k 16 (cycled 2 (funds 1 16 16 1) (table (pos 72) 0)) (flat numbers_of (control 11 0 10 ∷ control 11 24 20 ∷ []) ++ room 3)
 
 written : Plenty (answer 0 cycling (table (pos 0) 0)) × Scarce (answer 0 cycling (table (pos 0) 0))
-unfolding cycled_of cycled_list cycle_refusal is_list is_time sized inside ok_budget is_bytes rows_of called_state call push wrote share tableMoved limit takes leaves due_count steps gap run after advanced write_of turn event_of_offer time_of start_of event_for is_controller clamped top_of scaled_for moved range_in spread new_of answered is_timebase new_track code_of is_target
+unfolding cycled_of cycled_list cycle_refusal is_list is_time sized inside ok_budget is_bytes rows_of called_state call push wrote share table_moved limit takes leaves due_count steps gap run after advanced write_of turn event_of_offer time_of start_of event_for is_controller clamped top_of scaled_for moved range_in spread new_of answered is_timebase new_track code_of is_target
 written = (record { answer = rw lent-well; left = rw lent-well }, record { answer = rw lent-well; left = rw lent-well })
 
 pub plenty : Plenty set

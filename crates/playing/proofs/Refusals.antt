@@ -23,7 +23,7 @@ use Rattle.params.specs.Calls.{set_on_time, set_on_cycle, set_random, set_range}
 use Rattle.params.proofs.Calls.{param-delay}
 use Rattle.layers.specs.declared.LayersAnswer.{LayersAnswer}
 use Rattle.layers.specs.Layers.{ok_layers}
-use Rattle.layers.specs.Calls.{layer_demand, set_vSub, set_vSub_on_time}
+use Rattle.layers.specs.Calls.{layer_demand, set_v_sub, set_v_sub_on_time}
 use Rattle.state.specs.declared.Track.{Track}
 use Rattle.state.specs.Tests.{ok_params, ok_track}
 use Rattle.state.proofs.Parts.{track-play, track-params, track-layers}
@@ -179,12 +179,12 @@ module _ (a : Track) (i : ℕ) where
   all-well : ok_track a ≡ true → (ok_layers a.layers && is_time a.timepos && is_length a.v.delay) ≡ true
   all-well e = rw (track-layers a e, play-time a (track-play a e), delay-well e)
 
-  pub set-v-sub-code : (v : ℤ) → (on_layers a (set_vSub a.layers i v)).code ≡ layer_demand i (ok_track a && is_number v)
+  pub set-v-sub-code : (v : ℤ) → (on_layers a (set_v_sub a.layers i v)).code ≡ layer_demand i (ok_track a && is_number v)
   set-v-sub-code v =
       on-layers-code _ ∙ ap (asked (ok_track a)) (layers-code _ _ _ _) ∙ asked-layer i (ok_track a) (ok_layers a.layers && is_number v)
       ∙ ap (layer_demand i) (absorbed-one (ok_track a) (ok_layers a.layers) (is_number v) (track-layers a))
 
-  pub set-v-sub-on-time-code : (v : List ℤ) → (on_layers a (set_vSub_on_time a.layers i a.timepos a.v.delay v)).code ≡ list_demand v (layer_demand i (ok_track a && is_curve v))
+  pub set-v-sub-on-time-code : (v : List ℤ) → (on_layers a (set_v_sub_on_time a.layers i a.timepos a.v.delay v)).code ≡ list_demand v (layer_demand i (ok_track a && is_curve v))
   set-v-sub-on-time-code v =
       on-layers-code _ ∙ ap (asked (ok_track a)) (layers-code _ _ _ _)
       ∙ asked-layer-list v i (ok_track a) (ok_layers a.layers && is_time a.timepos && is_length a.v.delay && is_curve v)

@@ -5,7 +5,7 @@
 
 ghost use Rattle.std.specs.Prelude.{◌≡◌, cond};
 ghost use Rattle.params.specs.Calls.{clear_reserve, set_on_time, set_on_cycle, set_on_note, set_random, set_range, clear_range, set_delay, set_max, clear_max, set_repeat};
-ghost use Rattle.layers.specs.Calls.{set_vSub, set_vSub_random, set_vSub_on_time, set_vSub_on_cycle, set_vSub_on_note, apply_vSub};
+ghost use Rattle.layers.specs.Calls.{set_v_sub, set_v_sub_random, set_v_sub_on_time, set_v_sub_on_cycle, set_v_sub_on_note, apply_v_sub};
 ghost use Rattle.playing.specs.Which.{velocity, gate, timing, octave, span, param_of, with_param};
 ghost use Rattle.playing.specs.Settled.{settled, listed};
 ghost use Rattle.playing.specs.Calls.{asked, on_param, on_layers, time_taken, summed_up, value_on_time, value_on_note};
@@ -342,7 +342,7 @@ pub fn calc_l_on_note(mut track: Track, def: i32) -> TrackValue
 
 // A layer's value; nothing stays reserved for it. Refuses 4, 5.
 pub fn set_v_sub(track: Track, index: usize, velocity: i32) -> TrackAnswer
-    ensures { result ≡ on_layers track (set_vSub track.layers index velocity) }
+    ensures { result ≡ on_layers track (set_v_sub track.layers index velocity) }
 {
     let layers = track.layers;
     let after = layers.set_v_sub(index, velocity);
@@ -351,7 +351,7 @@ pub fn set_v_sub(track: Track, index: usize, velocity: i32) -> TrackAnswer
 
 // A layer's random width. Refuses 4, 5.
 pub fn set_v_sub_random(track: Track, index: usize, random: i32) -> TrackAnswer
-    ensures { result ≡ on_layers track (set_vSub_random track.layers index random) }
+    ensures { result ≡ on_layers track (set_v_sub_random track.layers index random) }
 {
     let layers = track.layers;
     let after = layers.set_v_sub_random(index, random);
@@ -360,7 +360,7 @@ pub fn set_v_sub_random(track: Track, index: usize, random: i32) -> TrackAnswer
 
 // Reserves a curve for a layer, from the track's time and the velocity parameter's delay on. Refuses 3, 4, 5.
 pub fn set_v_sub_on_time(track: Track, index: usize, values: &[i32]) -> TrackAnswer
-    ensures { result ≡ on_layers track (set_vSub_on_time track.layers index track.timepos track.v.delay values.now) }
+    ensures { result ≡ on_layers track (set_v_sub_on_time track.layers index track.timepos track.v.delay values.now) }
 {
     let layers = track.layers;
     let param = track.v;
@@ -370,7 +370,7 @@ pub fn set_v_sub_on_time(track: Track, index: usize, values: &[i32]) -> TrackAns
 
 // Reserves a cycle for a layer, its length and then its values; nothing, where there is no value. Refuses 3, 4, 5.
 pub fn set_v_sub_on_cycle(track: Track, index: usize, args: &[i32]) -> TrackAnswer
-    ensures { result ≡ on_layers track (set_vSub_on_cycle track.layers index track.timepos track.v.delay args.now) }
+    ensures { result ≡ on_layers track (set_v_sub_on_cycle track.layers index track.timepos track.v.delay args.now) }
 {
     let layers = track.layers;
     let param = track.v;
@@ -381,7 +381,7 @@ pub fn set_v_sub_on_cycle(track: Track, index: usize, args: &[i32]) -> TrackAnsw
 // Reserves a value of a layer for each of the next notes, round and round where the velocity parameter's repeat stands.
 // Refuses 3, 4, 5.
 pub fn set_v_sub_on_note(track: Track, index: usize, values: &[i32]) -> TrackAnswer
-    ensures { result ≡ on_layers track (set_vSub_on_note track.layers index track.v.repeat values.now) }
+    ensures { result ≡ on_layers track (set_v_sub_on_note track.layers index track.v.repeat values.now) }
 {
     let layers = track.layers;
     let param = track.v;
@@ -413,7 +413,7 @@ fn summed_up(mut track: Track, sum: Velocity) -> TrackVelocity
 
 // A note's velocity at the track's time: the given one and what every layer adds to it. The layers come back advanced. Refuses 4.
 pub fn apply_v_sub(track: Track, velocity: i32) -> TrackVelocity
-    ensures { result ≡ summed_up track (apply_vSub track.layers track.timepos velocity) }
+    ensures { result ≡ summed_up track (apply_v_sub track.layers track.timepos velocity) }
 {
     let layers = track.layers;
     let sum = layers.apply_v_sub(track.timepos, velocity);

@@ -17,7 +17,7 @@ use Rattle.layers.specs.declared.Layers.{Layers}
 use Rattle.layers.specs.declared.LayersAnswer.{LayersAnswer}
 use Rattle.layers.specs.declared.Velocity.{Velocity}
 use Rattle.layers.specs.Layers.{fresh_layer, with_items, ok_layers, grown, changed, advanced, first}
-use Rattle.layers.specs.Calls.{layer_demand, answered, summed, apply_vSub}
+use Rattle.layers.specs.Calls.{layer_demand, answered, summed, apply_v_sub}
 
 abbrev pub Filled : Layers → Type 0
 Filled l = length l.items ≡ layer_limit
@@ -59,8 +59,8 @@ module _ (l : Layers) (m : Filled l) where
   pub listed-filled : (v : List ℤ) (i : ℕ) (ok : Bool) (f : Layer → Layer) → Filled (answered (list_demand v (layer_demand i ok)) l i f).layers
   listed-filled v i ok f = answered-filled (list_demand v (layer_demand i ok)) i f (in_place (ltb list_limit (length v)) ok (leb layer_limit i))
 
-  pub applied-filled : (t v : ℤ) → Filled (apply_vSub l t v).layers
-  unfolding apply_vSub
+  pub applied-filled : (t v : ℤ) → Filled (apply_v_sub l t v).layers
+  unfolding apply_v_sub
   applied-filled t v = go (ok_layers l && is_time t && is_number v)
     where
       go : (b : Bool) → Filled (cond {A = Velocity} b (summed l t v) (record { code = 4; value = pos 0; layers = l })).layers

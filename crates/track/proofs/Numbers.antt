@@ -171,8 +171,8 @@ module _ (a : Track) (e : ok_track a ≡ true) where
       go n true q = sym (eqb-true n 0 q)
       go n false q = refl
 
-  applied-code : (v : ℤ) → (layers.apply_vSub a.layers a.timepos v).code ≡ demand (is_number v)
-  unfolding layers.apply_vSub
+  applied-code : (v : ℤ) → (layers.apply_v_sub a.layers a.timepos v).code ≡ demand (is_number v)
+  unfolding layers.apply_v_sub
   applied-code v = go (is_number v) ∙ refl
     where
       both : (ok_layers a.layers && is_time a.timepos) ≡ true

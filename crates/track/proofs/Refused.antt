@@ -190,8 +190,8 @@ no_size store e =
     chosen (λ (r : Size). r.code) (λ m. record { code = m; bytes = 0 }) (ok_event store e) 4 (record { code = 0; bytes = bytes_of e.kind e.len })
     (λ h. absurd (h refl)) refl
 
-sum_kept : (l : Layers) (timepos v : ℤ) → SumKept l (layers.apply_vSub l timepos v)
-unfolding layers.apply_vSub
+sum_kept : (l : Layers) (timepos v : ℤ) → SumKept l (layers.apply_v_sub l timepos v)
+unfolding layers.apply_v_sub
 sum_kept l timepos v =
     chosen (λ (r : Velocity). r.code) (λ m. record { code = m; value = pos 0; layers = l }) (ok_layers l && is_time timepos && is_number v) 4
     (layers.summed l timepos v) (λ h. absurd (h refl)) refl
@@ -216,12 +216,12 @@ pub record OfTrack (a : Track) : Type 0 where
   pub calc-qlen-on-note : (def : ℤ) → ValueKept a (value_on_note gate a def)
   pub calc-o-on-note : (def : ℤ) → ValueKept a (value_on_note octave a def)
   pub calc-l-on-note : (def : ℤ) → ValueKept a (value_on_note span a def)
-  pub set-v-sub : (i : ℕ) (v : ℤ) → TrackKept a (on_layers a (layers.set_vSub a.layers i v))
-  pub set-v-sub-random : (i : ℕ) (n : ℤ) → TrackKept a (on_layers a (layers.set_vSub_random a.layers i n))
-  pub set-v-sub-on-time : (i : ℕ) (v : List ℤ) → TrackKept a (on_layers a (layers.set_vSub_on_time a.layers i a.timepos a.v.delay v))
-  pub set-v-sub-on-cycle : (i : ℕ) (v : List ℤ) → TrackKept a (on_layers a (layers.set_vSub_on_cycle a.layers i a.timepos a.v.delay v))
-  pub set-v-sub-on-note : (i : ℕ) (v : List ℤ) → TrackKept a (on_layers a (layers.set_vSub_on_note a.layers i a.v.repeat v))
-  pub apply-v-sub : (v : ℤ) → VelocityKept a (summed_up a (layers.apply_vSub a.layers a.timepos v))
+  pub set-v-sub : (i : ℕ) (v : ℤ) → TrackKept a (on_layers a (layers.set_v_sub a.layers i v))
+  pub set-v-sub-random : (i : ℕ) (n : ℤ) → TrackKept a (on_layers a (layers.set_v_sub_random a.layers i n))
+  pub set-v-sub-on-time : (i : ℕ) (v : List ℤ) → TrackKept a (on_layers a (layers.set_v_sub_on_time a.layers i a.timepos a.v.delay v))
+  pub set-v-sub-on-cycle : (i : ℕ) (v : List ℤ) → TrackKept a (on_layers a (layers.set_v_sub_on_cycle a.layers i a.timepos a.v.delay v))
+  pub set-v-sub-on-note : (i : ℕ) (v : List ℤ) → TrackKept a (on_layers a (layers.set_v_sub_on_note a.layers i a.v.repeat v))
+  pub apply-v-sub : (v : ℤ) → VelocityKept a (summed_up a (layers.apply_v_sub a.layers a.timepos v))
   pub set-param-on-time : (w : ℕ) (v : List ℤ) → TrackKept a (on_param w a (params.set_on_time (param_of w a) a.timepos v))
   pub set-param-on-cycle : (w : ℕ) (v : List ℤ) → TrackKept a (on_param w a (params.set_on_cycle (param_of w a) a.timepos v))
   pub set-param-on-note : (w : ℕ) (v : List ℤ) → TrackKept a (on_param w a (params.set_on_note (param_of w a) v))
@@ -330,12 +330,12 @@ of-param p =
 
 -- ---- the layers
 pub record OfLayers (l : Layers) : Type 0 where
-  pub set-v-sub : (i : ℕ) (v : ℤ) → LayersKept l (layers.set_vSub l i v)
-  pub set-v-sub-random : (i : ℕ) (n : ℤ) → LayersKept l (layers.set_vSub_random l i n)
-  pub set-v-sub-on-time : (i : ℕ) (timepos delay : ℤ) (v : List ℤ) → LayersKept l (layers.set_vSub_on_time l i timepos delay v)
-  pub set-v-sub-on-cycle : (i : ℕ) (timepos delay : ℤ) (v : List ℤ) → LayersKept l (layers.set_vSub_on_cycle l i timepos delay v)
-  pub set-v-sub-on-note : (i repeat : ℕ) (v : List ℤ) → LayersKept l (layers.set_vSub_on_note l i repeat v)
-  pub apply-v-sub : (timepos v : ℤ) → SumKept l (layers.apply_vSub l timepos v)
+  pub set-v-sub : (i : ℕ) (v : ℤ) → LayersKept l (layers.set_v_sub l i v)
+  pub set-v-sub-random : (i : ℕ) (n : ℤ) → LayersKept l (layers.set_v_sub_random l i n)
+  pub set-v-sub-on-time : (i : ℕ) (timepos delay : ℤ) (v : List ℤ) → LayersKept l (layers.set_v_sub_on_time l i timepos delay v)
+  pub set-v-sub-on-cycle : (i : ℕ) (timepos delay : ℤ) (v : List ℤ) → LayersKept l (layers.set_v_sub_on_cycle l i timepos delay v)
+  pub set-v-sub-on-note : (i repeat : ℕ) (v : List ℤ) → LayersKept l (layers.set_v_sub_on_note l i repeat v)
+  pub apply-v-sub : (timepos v : ℤ) → SumKept l (layers.apply_v_sub l timepos v)
 
 pub of-layers : (l : Layers) → OfLayers l
 of-layers l =

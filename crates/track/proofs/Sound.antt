@@ -27,7 +27,7 @@ use Rattle.budget.specs.Budgets.{ok_budget, unspent, new_budget}
 use Rattle.events.specs.declared.Event.{Event}
 use Rattle.events.specs.declared.Made.{Made}
 use Rattle.events.specs.Kinds.{has_data}
-use Rattle.events.specs.Events.{ok_data, ok_event, note_event, voice_event, cc_event, pitch_bend_event, pitch_bend_range_event, meta_event, direct_smf_event, sysex_event, made, made_cc, refused as refusedEvent}
+use Rattle.events.specs.Events.{ok_data, ok_event, note_event, voice_event, cc_event, pitch_bend_event, pitch_bend_range_event, meta_event, direct_smf_event, sysex_event, made, made_cc, refused as refused_event}
 use Rattle.events.proofs.Stored.{storable, storable-ok}
 use Rattle.counted.specs.Numbers.{numbers, ok_numbers}
 use Rattle.counted.specs.Curves.{is_curve}
@@ -122,12 +122,12 @@ pub record LayersFollow (l k : Layers) : Type 0 where
   pub filled : Filled k
 
 pub record OfLayers (l : Layers) : Type 0 where
-  pub set-v-sub : (i : ℕ) (v : ℤ) → LayersFollow l (layers.set_vSub l i v).layers
-  pub set-v-sub-random : (i : ℕ) (n : ℤ) → LayersFollow l (layers.set_vSub_random l i n).layers
-  pub set-v-sub-on-time : (i : ℕ) (timepos delay : ℤ) (v : List ℤ) → LayersFollow l (layers.set_vSub_on_time l i timepos delay v).layers
-  pub set-v-sub-on-cycle : (i : ℕ) (timepos delay : ℤ) (v : List ℤ) → LayersFollow l (layers.set_vSub_on_cycle l i timepos delay v).layers
-  pub set-v-sub-on-note : (i repeat : ℕ) (v : List ℤ) → LayersFollow l (layers.set_vSub_on_note l i repeat v).layers
-  pub apply-v-sub : (timepos v : ℤ) → LayersFollow l (layers.apply_vSub l timepos v).layers
+  pub set-v-sub : (i : ℕ) (v : ℤ) → LayersFollow l (layers.set_v_sub l i v).layers
+  pub set-v-sub-random : (i : ℕ) (n : ℤ) → LayersFollow l (layers.set_v_sub_random l i n).layers
+  pub set-v-sub-on-time : (i : ℕ) (timepos delay : ℤ) (v : List ℤ) → LayersFollow l (layers.set_v_sub_on_time l i timepos delay v).layers
+  pub set-v-sub-on-cycle : (i : ℕ) (timepos delay : ℤ) (v : List ℤ) → LayersFollow l (layers.set_v_sub_on_cycle l i timepos delay v).layers
+  pub set-v-sub-on-note : (i repeat : ℕ) (v : List ℤ) → LayersFollow l (layers.set_v_sub_on_note l i repeat v).layers
+  pub apply-v-sub : (timepos v : ℤ) → LayersFollow l (layers.apply_v_sub l timepos v).layers
 
 pub of-layers : (l : Layers) → Filled l → OfLayers l
 of-layers l m =
@@ -385,12 +385,12 @@ pub record OfTrack (a : Track) : Type 0 where
   pub calc-qlen-on-note : (def : ℤ) → Follows a (value_on_note gate a def).track
   pub calc-o-on-note : (def : ℤ) → Follows a (value_on_note octave a def).track
   pub calc-l-on-note : (def : ℤ) → Follows a (value_on_note span a def).track
-  pub set-v-sub : (i : ℕ) (v : ℤ) → Follows a (on_layers a (layers.set_vSub a.layers i v)).track
-  pub set-v-sub-random : (i : ℕ) (n : ℤ) → Follows a (on_layers a (layers.set_vSub_random a.layers i n)).track
-  pub set-v-sub-on-time : (i : ℕ) (v : List ℤ) → Follows a (on_layers a (layers.set_vSub_on_time a.layers i a.timepos a.v.delay v)).track
-  pub set-v-sub-on-cycle : (i : ℕ) (v : List ℤ) → Follows a (on_layers a (layers.set_vSub_on_cycle a.layers i a.timepos a.v.delay v)).track
-  pub set-v-sub-on-note : (i : ℕ) (v : List ℤ) → Follows a (on_layers a (layers.set_vSub_on_note a.layers i a.v.repeat v)).track
-  pub apply-v-sub : (v : ℤ) → Follows a (summed_up a (layers.apply_vSub a.layers a.timepos v)).track
+  pub set-v-sub : (i : ℕ) (v : ℤ) → Follows a (on_layers a (layers.set_v_sub a.layers i v)).track
+  pub set-v-sub-random : (i : ℕ) (n : ℤ) → Follows a (on_layers a (layers.set_v_sub_random a.layers i n)).track
+  pub set-v-sub-on-time : (i : ℕ) (v : List ℤ) → Follows a (on_layers a (layers.set_v_sub_on_time a.layers i a.timepos a.v.delay v)).track
+  pub set-v-sub-on-cycle : (i : ℕ) (v : List ℤ) → Follows a (on_layers a (layers.set_v_sub_on_cycle a.layers i a.timepos a.v.delay v)).track
+  pub set-v-sub-on-note : (i : ℕ) (v : List ℤ) → Follows a (on_layers a (layers.set_v_sub_on_note a.layers i a.v.repeat v)).track
+  pub apply-v-sub : (v : ℤ) → Follows a (summed_up a (layers.apply_v_sub a.layers a.timepos v)).track
   pub set-param-on-time : (w : ℕ) (v : List ℤ) → Follows a (on_param w a (params.set_on_time (param_of w a) a.timepos v)).track
   pub set-param-on-cycle : (w : ℕ) (v : List ℤ) → Follows a (on_param w a (params.set_on_cycle (param_of w a) a.timepos v)).track
   pub set-param-on-note : (w : ℕ) (v : List ℤ) → Follows a (on_param w a (params.set_on_note (param_of w a) v)).track
@@ -462,8 +462,8 @@ of-track a m =
 pub made-sound : (store : ℕ) (e : Event) → (made store e).code ≡ 0 → ok_event store (made store e).event ≡ true
 made-sound store e = go (ok_event store e) refl
   where
-    go : (t : Bool) → ok_event store e ≡ t → (cond {A = Made} t (record { code = 0; event = e }) (refusedEvent 4)).code ≡ 0
-        → ok_event store (cond {A = Made} t (record { code = 0; event = e }) (refusedEvent 4)).event ≡ true
+    go : (t : Bool) → ok_event store e ≡ t → (cond {A = Made} t (record { code = 0; event = e }) (refused_event 4)).code ≡ 0
+        → ok_event store (cond {A = Made} t (record { code = 0; event = e }) (refused_event 4)).event ≡ true
     go true q z = q
     go false q z = absurd (omega (arith, z))
 
@@ -478,12 +478,12 @@ module _ (store : ℕ) (e : Event) (n : has_data e.kind ≡ false) where
   plain-sound : (made 0 e).code ≡ 0 → ok_event store (made 0 e).event ≡ true
   plain-sound = go (ok_event 0 e) refl
     where
-      go : (t : Bool) → ok_event 0 e ≡ t → (cond {A = Made} t (record { code = 0; event = e }) (refusedEvent 4)).code ≡ 0
-          → ok_event store (cond {A = Made} t (record { code = 0; event = e }) (refusedEvent 4)).event ≡ true
+      go : (t : Bool) → ok_event 0 e ≡ t → (cond {A = Made} t (record { code = 0; event = e }) (refused_event 4)).code ≡ 0
+          → ok_event store (cond {A = Made} t (record { code = 0; event = e }) (refused_event 4)).event ≡ true
       go true q z = anywhere store e n q
       go false q z = absurd (omega (arith, z))
 
-  numbered-sound : (t : Bool) → (cond t (made 0 e) (refusedEvent 2)).code ≡ 0 → ok_event store (cond t (made 0 e) (refusedEvent 2)).event ≡ true
+  numbered-sound : (t : Bool) → (cond t (made 0 e) (refused_event 2)).code ≡ 0 → ok_event store (cond t (made 0 e) (refused_event 2)).event ≡ true
   numbered-sound true z = plain-sound z
   numbered-sound false z = absurd (omega (arith, z))
 

@@ -4,11 +4,11 @@ use mir.Syntax.{w64}
 use mir.Val.{SFits}
 use mir.Facts.{to_z-of_z}
 use borrow.Author.Rules.{rules, sfits_of}
-use Rattle.layers.specs.Calls.{apply_vSub}
+use Rattle.layers.specs.Calls.{apply_v_sub}
 use Rattle.playing.specs.Calls.{summed_up}
 use Rattle.playing.proofs.apply_v_sub.Goals as goal
 
 pub returns : goal.returns
 returns c =
     let f : SFits w64 c.args.track.timepos = sfits_of c.struct_told-1.given.1.0.1 in
-    c.summed_up.ensures ∙ ap (summed_up c.args.track) (c.apply_v_sub-sum.ensures ∙ ap₂ (apply_vSub c.args.track.layers) (to_z-of_z f) (to_z-of_z c.ranges.velocity))
+    c.summed_up.ensures ∙ ap (summed_up c.args.track) (c.apply_v_sub-sum.ensures ∙ ap₂ (apply_v_sub c.args.track.layers) (to_z-of_z f) (to_z-of_z c.ranges.velocity))

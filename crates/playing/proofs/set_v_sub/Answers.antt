@@ -2,10 +2,10 @@
 use mathlib.Core.Path.{ap, ◌∙◌}
 use mir.Facts.{to_z-of_z}
 use borrow.Author.Rules.{rules}
-use Rattle.layers.specs.Calls.{set_vSub}
+use Rattle.layers.specs.Calls.{set_v_sub}
 use Rattle.playing.specs.Calls.{on_layers}
 use Rattle.playing.proofs.set_v_sub.Goals as goal
 
 pub returns : goal.returns
 returns c =
-    c.layers_set.ensures ∙ ap (on_layers c.args.track) (c.set_v_sub-after.ensures ∙ ap (set_vSub c.args.track.layers c.args.index) (to_z-of_z c.ranges.velocity))
+    c.layers_set.ensures ∙ ap (on_layers c.args.track) (c.set_v_sub-after.ensures ∙ ap (set_v_sub c.args.track.layers c.args.index) (to_z-of_z c.ranges.velocity))

@@ -2,10 +2,10 @@
 use mathlib.Core.Path.{ap, ◌∙◌}
 use mir.Facts.{to_z-of_z}
 use borrow.Author.Rules.{rules}
-use Rattle.layers.specs.Calls.{set_vSub_random}
+use Rattle.layers.specs.Calls.{set_v_sub_random}
 use Rattle.playing.specs.Calls.{on_layers}
 use Rattle.playing.proofs.set_v_sub_random.Goals as goal
 
 pub returns : goal.returns
 returns c =
-    c.layers_set.ensures ∙ ap (on_layers c.args.track) (c.set_v_sub_random-after.ensures ∙ ap (set_vSub_random c.args.track.layers c.args.index) (to_z-of_z c.ranges.random))
+    c.layers_set.ensures ∙ ap (on_layers c.args.track) (c.set_v_sub_random-after.ensures ∙ ap (set_v_sub_random c.args.track.layers c.args.index) (to_z-of_z c.ranges.random))

@@ -8,7 +8,7 @@ use Rattle.laws.proofs.Ranges.{left, right}
 use Rattle.laws.proofs.Tests.{no, yes, is_at, both}
 use Rattle.numbers.specs.Ranges.{is_time, is_number}
 use Rattle.layers.specs.Layers.{ok_layers}
-use Rattle.layers.specs.Calls.{summed, apply_vSub}
+use Rattle.layers.specs.Calls.{summed, apply_v_sub}
 use Rattle.layers.proofs.Layers.apply_v_sub.Goals as goal
 
 tested : (c : goal.Then-not-a-b) → (c.layers_ok-a.result && c.is_time-b.result && c.is_number-c.result) ≡ (ok_layers c.args.self && is_time c.args.timepos && is_number c.args.velocity)
@@ -27,7 +27,7 @@ tested-at-3 c =
     both (both c.layers_ok-a.ensures (is_at w64 is_time f.timepos.sfits c.is_time-b.ensures)) (is_at w32 is_number f.velocity.sfits c.is_number-c.ensures)
 
 pub returns-then-not-a-b : goal.returns-then-not-a-b
-unfolding apply_vSub
+unfolding apply_v_sub
 returns-then-not-a-b c = rw (no (tested c) c.if-not-a-b.true)
 
 pub sum_layers-requires : goal.sum_layers-requires
@@ -36,7 +36,7 @@ sum_layers-requires c =
     record { layers_value = left _ _ h; timepos_value = rw (to_z-of_z c.ranges.timepos) (right (ok_layers c.args.self) _ h) }
 
 pub returns : goal.returns
-unfolding apply_vSub
+unfolding apply_v_sub
 returns c =
     rw (yes (tested-at-3 c) c.if-not-a-b.false)
     (c.sum_layers.ensures ∙ ap₂ (summed c.args.self) (to_z-of_z c.ranges.timepos) (to_z-of_z c.ranges.velocity))
