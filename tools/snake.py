@@ -11,7 +11,7 @@ src/ too. Names of functions, fields and types of src/, strings and must-fail ed
 import glob
 import re
 
-WORD = r"[^\s(){}.;,:\"«»\[\]\\=⌜⌝⊢λ◌|]+"
+WORD = r"[^\s(){}.;,:`\"«»\[\]\\=⌜⌝⊢λ◌|]+"
 DECLARED = re.compile(r"^\s*(?:abbrev |unfoldable |pub |data |record )*(" + WORD + r")\s*:(?!:)", re.M)
 CAPITAL = re.compile(r"(?<=[a-z0-9])([A-Z])|(?<=[A-Z])([A-Z])(?=[a-z])")
 BROUGHT = re.compile(r" as ([a-z]" + WORD + r")(?=[,}])")

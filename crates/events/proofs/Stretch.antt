@@ -1,4 +1,4 @@
--- A stretch inside a store, tested so that no sum can wrap: each test as `is_stretch` makes it, and what it says of `isStretch`.
+-- A stretch inside a store, tested so that no sum can wrap: each test as `is_stretch` makes it, and what it says of `is_stretch`.
 use mathlib.Core.Path.{◌≡◌, refl, sym, ap₂, ◌∙◌}
 use mathlib.Core.Bool.{Bool, true, false, true≢false, cond, ◌&&◌}
 use Prim.Native.Nat.{ℕ, ◌+◌, ◌-◌, ◌≤◌, ◌<◌}

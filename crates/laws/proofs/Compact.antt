@@ -1,5 +1,5 @@
 -- A list of records compacted in place, over any record: what is kept of the first i stands in front, and behind it is what
--- stood there (`compact`); then the places that fell vacant are cleared (`cleared`), and what comes is `putFirst`.
+-- stood there (`compact`); then the places that fell vacant are cleared (`cleared`), and what comes is `put_first`.
 --     kept-.., counted-.., compact-..   one record more, kept or left out
 --     kept-rest, compact-rest           a stretch more, all of it kept
 --     without-twice                     two tests, one after the other, are one

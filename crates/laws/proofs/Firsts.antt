@@ -1,4 +1,4 @@
--- A counted list whose first become others (`putFirst`), and the test of what counts of it (`counted`).
+-- A counted list whose first become others (`put_first`), and the test of what counts of it (`counted`).
 --     shown, roomy, length-put_first   what counts then, that there is room for it, how long the list is
 --     put_same, put-over              the first in their own place, and where as many were put before
 --     counted-put                     the test holds where it holds of what is put

@@ -1,5 +1,5 @@
 -- 01, "Waves", as the code goes: a source stands at a place of the triples, and what it has still to give is, by mode,
--- what `triplesOf` builds as a list.
+-- what `triples_of` builds as a list.
 use Rattle.std.specs.Prelude.{◌≡◌, Bool, true, false, cond, List, [], ◌∷◌, ◌++◌, ℕ, ◌+◌, ◌-◌, ◌*◌, ◌/◌, min, ◌≤◌, ◌<◌, ◌^◌, eqb, ltb, ℤ, length, get_or, drop}
 use Rattle.std.specs.Int.Signed.{mag}
 use Rattle.offers.specs.declared.Piece.{Piece}

@@ -1,7 +1,7 @@
 -- 01, "One value" and "On-time curves": each write steps the seed and then asks the budget for its bytes; what fits is paid for and added,
 -- what does not is lost and sets the flag. Told over any kind of write, whatever it becomes and however many bytes it takes: a curve's point,
--- a cycle's due write, a list's value at a note. Payments are told twice: one after the other (`pay`, `payAll`, `payUntil`), as the document
--- says it, and as a closed form (`paidFor`), from which proofs/ reads the numbers.
+-- a cycle's due write, a list's value at a note. Payments are told twice: one after the other (`pay`, `pay_all`, `pay_until`), as the document
+-- says it, and as a closed form (`paid_for`), from which proofs/ reads the numbers.
 use Rattle.std.specs.Prelude.{Bool, cond, List, [], ◌∷◌, ◌++◌, ℕ, ◌+◌, ◌*◌, min, ltb, length, take}
 use Rattle.budget.specs.declared.Budget.{Budget}
 use Rattle.budget.specs.Budgets.{room, fits, seeded, reserved}

@@ -1,7 +1,7 @@
 -- A note's call puts the settled answer of its parameter into the track, field by field; that is what the call leaves.
 --     unsettled, settling   the answer, chosen by the number that was asked
 --     settled-on-note       the settled answer of the parameter's own call
---     note-left             a track that is built of the settled answer is the one that `noteTaken` says
+--     note-left             a track that is built of the settled answer is the one that `note_taken` says
 --     velocity-left ..      the same of each parameter, with the values that it keeps
 use mathlib.Core.Path.{◌≡◌, refl, sym, ap, ap₂, ◌∙◌}
 use mathlib.Core.Bool.{Bool, true, false, cond, ◌&&◌}

@@ -1,4 +1,4 @@
--- The counts of a tape, each under its one name. How many numbers a list may have is `listLimit` of `numbers`.
+-- The counts of a tape, each under its one name. How many numbers a list may have is `list_limit` of `numbers`.
 use Rattle.std.specs.Prelude.{ℕ}
 
 -- 01, "The tape program": "It reads up to 16,384 bytes"

@@ -1,6 +1,6 @@
 -- 01, "The tape program": what stands at a place of a tape. "Inside a record, numbers missing before the list give 8, then
 -- 2 and 3 are asked, then a short list gives 8, then the call's own numbers." How many numbers a list may have comes first
--- in the definitions ..By; those that the code is held to are these at `listLimit`.
+-- in the definitions ..By; those that the code is held to are these at `list_limit`.
 use Rattle.std.specs.Prelude.{Bool, cond, List, ℕ, ◌+◌, ◌*◌, ◌-◌, eqb, leb, ltb, ℤ, pos, length}
 use Rattle.laws.specs.Integers.{inside, cut}
 use Rattle.numbers.specs.Limits.{list_limit}

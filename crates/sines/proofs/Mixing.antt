@@ -1,4 +1,4 @@
--- low + (high - low) * w / d is low's part of d and high's, so that it is no larger than the larger of the two; and what `roundAway` makes of its sign.
+-- low + (high - low) * w / d is low's part of d and high's, so that it is no larger than the larger of the two; and what `round_away` makes of its sign.
 use mathlib.Core.Path.{◌≡◌, refl, sym, ap, ◌∙◌}
 use mathlib.Core.Bool.{true, false, true≢false}
 use Prim.Native.Nat.{ℕ, ◌+◌, ◌*◌, ◌-◌, ◌≤◌}
@@ -25,7 +25,7 @@ mix-le low high w d n p q h =
     let i : mix_of low high w d ≡ low *ℤ pos v +ℤ high *ℤ pos w = ap (mix_of low high w) (sym e) ∙ parts low high w v in
     rw i (omega (arith, e, abs-add (low *ℤ pos v) (high *ℤ pos w), abs-mul low v, abs-mul high w, mul-le-mul_right v p, mul-le-mul_right w q, mul-add n v w, ap (λ (x : ℕ). n * x) e))
 
--- ---- the sign that `roundAway` looks at
+-- ---- the sign that `round_away` looks at
 pub round-below : (n : ℤ) (d : ℕ) → lt_z n (pos 0) ≡ true → T (non_neg (neg_ℤ n)) × (neg_ℤ (pos (nearest (nat_abs n) d)) ≡ round_away n d)
 unfolding round_away
 round-below (pos n) d e = let h = ltb-true n 0 e in absurd (omega arith)

@@ -1,5 +1,5 @@
 -- The kinds of a sine, and the number that names each where a sine is set or written: 0 the full turn, 1 and 2 the quarters up and down.
--- `from_i` answers an enum, so its promise is `kindSaid`: no number refuses a kind, and its value is the number that names it.
+-- `from_i` answers an enum, so its promise is `kind_said`: no number refuses a kind, and its value is the number that names it.
 use Rattle.std.specs.Prelude.{cond, [], ◌∷◌, ℕ, ℤ, pos}
 use Rattle.laws.specs.Integers.{eq_z}
 use Rattle.laws.specs.Answers.{Said}

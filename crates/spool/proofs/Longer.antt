@@ -1,6 +1,6 @@
 -- 02, c): "other tapes read as before" of what is played and printed of a tape. As long as the records are the same, so are the runs; a run
 -- that is over stays as it is (`stopped`). The limit here is that of a tape's n: a list's room, and the calls' own tests of a list, are those
--- of `listLimit` on both sides.
+-- of `list_limit` on both sides.
 --     as-played, as-printed   at two limits, of a tape none of whose records was refused for its n
 --     request-c               at 96, the limit that was, and the limit that is
 use mathlib.Core.Path.{◌≡◌, refl, sym, ap, ◌∙◌}

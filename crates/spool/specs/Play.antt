@@ -1,6 +1,6 @@
 -- 01, "The tape program": a tape, record by record. "A refusal prints only `refused N at K`": the first record that is refused
 -- ends the tape. As in `reel`, the definitions ..By have the limit of a list first, and those that the code is held to are
--- these at `listLimit`.
+-- these at `list_limit`.
 use Rattle.std.specs.Prelude.{cond, ◌&&◌, List, ℕ, zero, suc, ◌+◌, eqb, ltb, ℤ, pos, length}
 use Rattle.numbers.specs.Limits.{list_limit}
 use Rattle.budget.specs.Budgets.{unspent}

@@ -1,4 +1,4 @@
--- A number of 64 bits has at most twenty digits, so that the bound of `digitsOf` cuts none off: its text is the text of a
+-- A number of 64 bits has at most twenty digits, so that the bound of `digits_of` cuts none off: its text is the text of a
 -- tenth of it, and one digit more.
 use mathlib.Core.Path.{◌≡◌, ap, sym, ◌∙◌}
 use mathlib.Core.List.{List, [], ◌∷◌, ◌++◌}

@@ -1,4 +1,4 @@
--- What the tests of a target's code say: `isController` for the ways in which a match asks it.
+-- What the tests of a target's code say: `is_controller` for the ways in which a match asks it.
 --     told-controller   from 0 to 127
 --     told_below, told-above   not a controller
 use mathlib.Core.Path.{◌≡◌, refl}

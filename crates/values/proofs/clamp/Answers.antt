@@ -1,4 +1,4 @@
--- The arms of the match are the cases of `scaledFor`; what each test says of the bits is said of the number.
+-- The arms of the match are the cases of `scaled_for`; what each test says of the bits is said of the number.
 use mathlib.Core.Path.{◌≡◌, refl, ◌∙◌}
 use mathlib.Core.Bool.{false}
 use Prim.Native.Nat.{◌<◌, ◌^◌}
