@@ -1,5 +1,5 @@
 -- Each arm is the quarter that its key names.
-use Prim.Native.Nat.{◌%◌, ◌*◌, ◌≤◌, ◌<◌}
+use Prim.Native.Nat.{◌%◌, ◌*◌, ◌/◌, ◌≤◌, ◌<◌}
 use native.Mathlib.Nat.{mod-lt}
 use native.Mathlib.Omega.{arith}
 use borrow.Author.Rules.{rules}
@@ -46,5 +46,5 @@ returns-in-2 c = (simp (c.in-2.is, c.sin_at-in-2.ensures.0), omega arith)
 pub returns-in_default : goal.returns-in_default
 unfolding lift_in
 returns-in_default c =
-    let r = c.in_default-own.rest in
-    (simp (ne_eqb _ _ r.0.0.1, ne_eqb _ _ r.0.1, ne_eqb _ _ r.1, c.sin_at-in_default.ensures.0), omega arith)
+    let q = 4 * c.args.p / c.args.len in
+    (simp (ne_eqb q 0 (search rules), ne_eqb q 1 (search rules), ne_eqb q 2 (search rules), c.sin_at-in_default.ensures.0), omega arith)
