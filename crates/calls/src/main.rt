@@ -200,13 +200,13 @@ fn turn(
     second: &mut [i64],
     store: &[u8],
     out: &mut Page,
-) -> Result<Run> {
-    let h = read_call(from, space, run.place, words)?;
+) -> Run {
+    let h = read_call(from, space, run.place, words);
     let p = h.place;
     if !p.there {
-        return Ok(over(run, p));
+        return over(run, p);
     }
-    Ok(answer_call(run, h, words, events, second, store, out))
+    answer_call(run, h, words, events, second, store, out)
 }
 
 fn begun() -> Run {
@@ -233,7 +233,7 @@ fn play(
     let mut run = begun();
     let mut left = MOST_CALLS;
     while 0 < left {
-        run = turn(from, run, space, words, events, second, store, out)?;
+        run = turn(from, run, space, words, events, second, store, out);
         left -= 1;
         if !run.place.there {
             left = 0;

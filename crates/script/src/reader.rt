@@ -1,7 +1,7 @@
 // The script, word by word. The bytes are read from standard input a buffer at a time; a buffer holds whole words,
 // so that a word never stands across two of them.
 use crate::args::{as_u32, as_usize, store};
-use std::io::{Result, Stdin};
+use std::io::Stdin;
 use text::word_at;
 
 // The bytes from `at` to `end` of the buffer are still to be read. `there` is false once a word was wanted and the
@@ -47,19 +47,19 @@ fn past_end() -> Place {
 }
 
 // The place at which there is something to read, or `there` false.
-fn filled(from: &mut Stdin, space: &mut [u8], place: Place) -> Result<Place> {
+fn filled(from: &mut Stdin, space: &mut [u8], place: Place) -> Place {
     if !place.there {
-        return Ok(place);
+        return place;
     }
     if place.at < place.end {
-        return Ok(place);
+        return place;
     }
-    let n = streams::read_full(from, space)?;
-    Ok(Place {
+    let n = streams::read_full(from, space);
+    Place {
         at: 0,
         end: n,
         there: n > 0,
-    })
+    }
 }
 
 // The word at a place of the buffer, if it is there whole.
@@ -94,9 +94,9 @@ fn word_here(space: &[u8], place: Place) -> Word {
 }
 
 // The next word of the script.
-fn next_word(from: &mut Stdin, space: &mut [u8], place: Place) -> Result<Word> {
-    let p = filled(from, space, place)?;
-    Ok(word_here(space, p))
+fn next_word(from: &mut Stdin, space: &mut [u8], place: Place) -> Word {
+    let p = filled(from, space, place);
+    word_here(space, p)
 }
 
 // The next word goes to place i of `words`.
@@ -106,10 +106,10 @@ fn take_word(
     place: Place,
     words: &mut [i64],
     i: usize,
-) -> Result<Place> {
-    let w = next_word(from, space, place)?;
+) -> Place {
+    let w = next_word(from, space, place);
     store(words, i, w.value);
-    Ok(w.place)
+    w.place
 }
 
 // The next n words go to the front of `words`.
@@ -119,50 +119,45 @@ fn take_words(
     place: Place,
     words: &mut [i64],
     n: usize,
-) -> Result<Place> {
+) -> Place {
     let mut p = place;
     let mut i: usize = 0;
     while i < n {
-        p = take_word(from, space, p, words, i)?;
+        p = take_word(from, space, p, words, i);
         i += 1;
     }
-    Ok(p)
+    p
 }
 
 // The two numbers in front of a call's arguments; a count outside 0 to 4096 ends the script.
-fn read_head(from: &mut Stdin, space: &mut [u8], place: Place) -> Result<Head> {
-    let op = next_word(from, space, place)?;
-    let n = next_word(from, space, op.place)?;
+fn read_head(from: &mut Stdin, space: &mut [u8], place: Place) -> Head {
+    let op = next_word(from, space, place);
+    let n = next_word(from, space, op.place);
     let k = n.value;
     let p = n.place;
     if (k < 0) | (4096 < k) {
-        return Ok(Head {
+        return Head {
             op: 0,
             count: 0,
             place: past_end(),
-        });
+        };
     }
-    Ok(Head {
+    Head {
         op: op.value,
         count: as_usize(k),
         place: p,
-    })
+    }
 }
 
 // A call's head; its arguments go to the front of `words`.
-pub fn read_call(
-    from: &mut Stdin,
-    space: &mut [u8],
-    place: Place,
-    words: &mut [i64],
-) -> Result<Head> {
-    let h = read_head(from, space, place)?;
-    let p = take_words(from, space, h.place, words, h.count)?;
-    Ok(Head {
+pub fn read_call(from: &mut Stdin, space: &mut [u8], place: Place, words: &mut [i64]) -> Head {
+    let h = read_head(from, space, place);
+    let p = take_words(from, space, h.place, words, h.count);
+    Head {
         op: h.op,
         count: h.count,
         place: p,
-    })
+    }
 }
 
 // The hundreds of a call's number.

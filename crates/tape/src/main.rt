@@ -54,6 +54,6 @@ fn main(rt: HostRuntime) -> Result<()> {
     let mut space = no_tape();
     let mut events = no_events();
     let mut page = blank_page();
-    let n = streams::read_full(&mut from, &mut space)?;
+    let n = streams::read_full(&mut from, &mut space);
     print_first(rt.stdout(), &space, n, &mut events, &mut page)
 }

@@ -3,7 +3,7 @@
 // inside a tape, or inside a length, one line says so, and nothing of that tape is played.
 #![tactic(auto)]
 
-ghost use Rattle.std.specs.Prelude.{◌≡◌, ◌+◌, ◌≤◌, ◌<◌, length, IfOk};
+ghost use Rattle.std.specs.Prelude.{◌≡◌, ◌+◌, ◌≤◌, ◌<◌, length};
 
 use lines::PAGE;
 use std::io::{Print, Result, Stdin, Stdout};
@@ -48,13 +48,13 @@ fn length_in(head: &[u8]) -> Next {
     Next::Tape(text::bits_at(head, 0) as usize)
 }
 
-fn next_length(from: &mut Stdin) -> Result<Next> {
+fn next_length(from: &mut Stdin) -> Next {
     let mut head: [u8; 4] = [0; 4];
-    let n = read_full(from, &mut head)?;
+    let n = read_full(from, &mut head);
     if n < 4 {
-        return Ok(Next::End(n));
+        return Next::End(n);
     }
-    Ok(length_in(&head))
+    length_in(&head)
 }
 
 fn least(a: usize, b: usize) -> usize
@@ -67,23 +67,23 @@ fn least(a: usize, b: usize) -> usize
 }
 
 // Reads n bytes to the front of `space`, or as many as there are; answers how many.
-fn read_front(from: &mut Stdin, space: &mut [u8], n: usize) -> Result<usize>
-    ensures { IfOk result (λ k. k ≤ n) }
+fn read_front(from: &mut Stdin, space: &mut [u8], n: usize) -> usize
+    ensures { result ≤ n }
 {
     if n <= space.len() {
-        let got = read_full(from, &mut space[..n])?;
-        return Ok(least(got, n));
+        let got = read_full(from, &mut space[..n]);
+        return least(got, n);
     }
-    Ok(0)
+    0
 }
 
 // Passes over some of the bytes that are left; answers how many, 0 at the stream's end.
-fn skip_part(from: &mut Stdin, left: usize) -> Result<usize>
-    ensures { IfOk result (λ n. n ≤ left) }
+fn skip_part(from: &mut Stdin, left: usize) -> usize
+    ensures { result ≤ left }
 {
     let mut space: [u8; 65536] = [0; 65536];
-    let n = read_front(from, &mut space, least(left, 65536))?;
-    Ok(least(n, left))
+    let n = read_front(from, &mut space, least(left, 65536));
+    least(n, left)
 }
 
 // What is left after a part: nothing where there was none.
@@ -98,30 +98,29 @@ fn rest_of(left: usize, part: usize) -> usize
 }
 
 // Passes over n bytes, or as many as there are; answers how many.
-fn skip(from: &mut Stdin, n: usize) -> Result<usize>
-    ensures { IfOk result (λ k. k ≤ n) }
+fn skip(from: &mut Stdin, n: usize) -> usize
+    ensures { result ≤ n }
 {
     let mut done: usize = 0;
     let mut left = n;
     while 0 < left {
-        let part = skip_part(from, left)?;
+        let part = skip_part(from, left);
         left = rest_of(left, part);
         done += part;
     }
-    Ok(done)
+    done
 }
 
 // Reads a tape of `long` bytes, those that show what it is to the front of `space`; answers how many there were.
-fn read_tape(from: &mut Stdin, space: &mut [u8], long: usize) -> Result<usize> {
+fn read_tape(from: &mut Stdin, space: &mut [u8], long: usize) -> usize {
     if long <= LONGEST {
         return read_front(from, space, long);
     }
-    let n = read_front(from, space, LONGEST)?;
+    let n = read_front(from, space, LONGEST);
     if n < LONGEST {
-        return Ok(n);
+        return n;
     }
-    let more = skip(from, long - LONGEST)?;
-    Ok(LONGEST + more)
+    LONGEST + skip(from, long - LONGEST)
 }
 
 fn write_front(to: Stdout, page: &[u8], n: usize) -> Result<()> {
@@ -154,7 +153,7 @@ fn play_next(
     page: &mut [u8],
     long: usize,
 ) -> Result<bool> {
-    let there = read_tape(from, space, long)?;
+    let there = read_tape(from, space, long);
     if there < long {
         print_end(to, "tape: ", there, long)?;
         return Ok(false);
@@ -165,7 +164,7 @@ fn play_next(
 
 // Reads and plays the next tape; false at the stream's end.
 fn turn(from: &mut Stdin, to: Stdout, space: &mut [u8], page: &mut [u8]) -> Result<bool> {
-    match next_length(from)? {
+    match next_length(from) {
         Next::Tape(long) => play_next(from, to, space, page, long),
         Next::End(n) => {
             if 0 < n {
