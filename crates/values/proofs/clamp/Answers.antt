@@ -12,7 +12,6 @@ use borrow.Author.Rules.{rules, sfits_of}
 use Rattle.laws.proofs.Signed.{lt-back-l}
 use Rattle.laws.proofs.Bits.{bits-eq, bits-differ}
 use Rattle.laws.specs.Integers.{eq_z}
-use Rattle.numbers.specs.Ranges.{is_controller}
 use Rattle.values.specs.Clamp.{clamped, scaled_for, top_of}
 use Rattle.values.proofs.Targets.{told-controller, told_below, told-above}
 use Rattle.values.proofs.clamp.Goals as goal

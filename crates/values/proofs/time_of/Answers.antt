@@ -4,7 +4,7 @@ use lib.IntN.{pos, ◌+ℤ◌}
 use mir.Syntax.{w64}
 use mir.Val.{SFits, to_z, of_z}
 use mir.Facts.{to_z-of_z, to_z_pos}
-use borrow.Author.Rules.{rules, sfits_of}
+use borrow.Author.Rules.{sfits_of}
 use Rattle.laws.proofs.Signed.{mag-add}
 use Rattle.values.specs.Value.{time_of}
 use Rattle.values.proofs.time_of.Goals as goal
