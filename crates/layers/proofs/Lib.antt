@@ -5,3 +5,4 @@ pub mod Own
 pub mod Kept
 pub mod Grown
 pub mod Set
+pub mod Laid

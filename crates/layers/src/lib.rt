@@ -71,6 +71,7 @@ fn fresh_layer() -> Layer
 }
 
 // Whether every number of a layer is in its range.
+#[tactic(auto, unfolding(crate::specs::Layers::ok_layer))]
 pub fn layer_ok(layer: Layer) -> bool
     ensures { result ≡ ok_layer layer }
 {
@@ -81,6 +82,7 @@ pub fn layer_ok(layer: Layer) -> bool
 }
 
 // Whether there are 1 to 16 layers, every number of which is in its range.
+#[tactic(auto, unfolding(crate::specs::Layers::ok_layers))]
 pub fn layers_ok(layers: Layers) -> bool
     ensures { result ≡ ok_layers layers }
 {
@@ -103,6 +105,7 @@ pub fn layers_ok(layers: Layers) -> bool
 }
 
 // The layers with empty ones up to `index`.
+#[tactic(auto, unfolding(crate::specs::Layers::grown))]
 fn grow(mut layers: Layers, index: usize) -> Layers
     requires { index < layer_limit }
     ensures { result ≡ grown layers index }
@@ -122,6 +125,7 @@ fn grow(mut layers: Layers, index: usize) -> Layers
 }
 
 // The layer at `index` with a value and nothing reserved.
+#[tactic(auto, unfolding(crate::specs::Layers::changed))]
 fn put_value(layers: Layers, index: usize, value: i32) -> Layers
     requires { index < layer_limit }
     ensures { result ≡ changed layers index (value_set value) }
@@ -135,6 +139,7 @@ fn put_value(layers: Layers, index: usize, value: i32) -> Layers
 }
 
 // The layer at `index` with a random width.
+#[tactic(auto, unfolding(crate::specs::Layers::changed))]
 fn put_random(layers: Layers, index: usize, random: i32) -> Layers
     requires { index < layer_limit }
     ensures { result ≡ changed layers index (random_set random) }
@@ -147,6 +152,7 @@ fn put_random(layers: Layers, index: usize, random: i32) -> Layers
 }
 
 // The layer at `index` with a reservation.
+#[tactic(auto, unfolding(crate::specs::Layers::changed))]
 fn put_reserve(layers: Layers, index: usize, reserve: Reserve) -> Layers
     requires { index < layer_limit }
     ensures { result ≡ changed layers index (reserve_set reserve) }
@@ -159,6 +165,7 @@ fn put_reserve(layers: Layers, index: usize, reserve: Reserve) -> Layers
 }
 
 // What a layer adds to a note at `timepos`, and what it then is.
+#[tactic(auto, unfolding(crate::specs::Layers::heard_of, crate::specs::Layers::ok_layer))]
 fn layer_heard(layer: Layer, timepos: i64) -> Heard
     requires layer_value { ok_layer layer ≡ true }
     requires timepos_value { is_time timepos ≡ true }
@@ -192,6 +199,7 @@ fn layer_heard(layer: Layer, timepos: i64) -> Heard
 }
 
 // The sum so far and the layers, one layer further.
+#[tactic(auto, unfolding(crate::specs::Calls::further))]
 fn advance(mut sum: Velocity, i: usize, timepos: i64) -> Velocity
     requires i_lt_layer_limit { i < layer_limit }
     requires fresh_layer_value { ok_layer (get_or sum.layers.items i fresh_layer) ≡ true }
@@ -243,6 +251,7 @@ impl Layers {
     }
 
     // A layer's value; nothing stays reserved for it. Refuses 4, 5.
+    #[tactic(auto, unfolding(crate::specs::Calls::answered))]
     pub fn set_v_sub(self, index: usize, velocity: i32) -> LayersAnswer
         ensures { result ≡ set_v_sub self index velocity }
     {
@@ -268,6 +277,7 @@ impl Layers {
     }
 
     // A layer's random width. Refuses 4, 5.
+    #[tactic(auto, unfolding(crate::specs::Calls::answered))]
     pub fn set_v_sub_random(self, index: usize, random: i32) -> LayersAnswer
         ensures { result ≡ set_v_sub_random self index random }
     {
@@ -293,6 +303,7 @@ impl Layers {
     }
 
     // Reserves a curve for a layer, from `timepos` and the velocity parameter's delay on. Refuses 3, 4, 5.
+    #[tactic(auto, using(crate::proofs::Laid::laid_triples), unfolding(crate::specs::Calls::answered))]
     pub fn set_v_sub_on_time(
         self,
         index: usize,
@@ -337,6 +348,7 @@ impl Layers {
 
     // Reserves a cycle for a layer, its length and then its values, from `timepos` and the velocity parameter's delay on; nothing,
     // where there is no value. Refuses 3, 4, 5.
+    #[tactic(auto, unfolding(crate::specs::Calls::answered))]
     pub fn set_v_sub_on_cycle(
         self,
         index: usize,
@@ -382,6 +394,7 @@ impl Layers {
 
     // Reserves a value of a layer for each of the next notes, round and round where the velocity parameter's repeat stands.
     // Refuses 3, 4, 5.
+    #[tactic(auto, using(crate::proofs::Laid::laid_list), unfolding(crate::specs::Calls::answered))]
     pub fn set_v_sub_on_note(self, index: usize, repeat: u32, values: &[i32]) -> LayersAnswer
         ensures { result ≡ set_v_sub_on_note self index repeat values.now }
     {
@@ -417,6 +430,7 @@ impl Layers {
     }
 
     // A note's velocity at `timepos`: the given one and what every layer adds to it. The layers come back advanced. Refuses 4.
+    #[tactic(auto, unfolding(crate::specs::Calls::apply_v_sub))]
     pub fn apply_v_sub(self, timepos: i64, velocity: i32) -> Velocity
         ensures { result ≡ apply_v_sub self timepos velocity }
     {

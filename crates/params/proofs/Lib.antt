@@ -2,3 +2,4 @@ pub mod Limits
 pub mod Calls
 pub mod Kept
 pub mod Options
+pub mod Laid

@@ -70,6 +70,7 @@ pub enum Max {
 }
 
 // Whether the numbers of a parameter's options are in their ranges; what is absent is not asked.
+#[tactic(auto, unfolding(crate::specs::Param::ok_limits))]
 fn limits_ok(param: NoteParam) -> bool
     ensures { result ≡ ok_limits param }
 {
@@ -86,6 +87,7 @@ fn limits_ok(param: NoteParam) -> bool
 }
 
 // Whether every number of a parameter is in its range.
+#[tactic(auto, unfolding(crate::specs::Param::ok_param))]
 pub fn param_ok(param: NoteParam) -> bool
     ensures { result ≡ ok_param param }
 {
@@ -150,6 +152,7 @@ fn most_or(max: Max, def: i32) -> i32
 }
 
 // A value limited by the range, and then by the maximum.
+#[tactic(auto, unfolding(crate::specs::Param::limited))]
 fn within_limits(param: NoteParam, value: i32) -> i32
     ensures { result ≡ limited param value }
 {
@@ -179,6 +182,7 @@ impl NoteParam {
     }
 
     // Nothing stays reserved. Refuses 4.
+    #[tactic(auto, unfolding(crate::specs::Calls::answered))]
     pub fn clear_reserve(mut self) -> ParamAnswer
         ensures { result ≡ clear_reserve self }
     {
@@ -197,6 +201,7 @@ impl NoteParam {
     }
 
     // Reserves a curve, low, high and length by threes, from `timepos` and the delay on. Refuses 3, 4.
+    #[tactic(auto, using(crate::proofs::Laid::laid_triples), unfolding(crate::specs::Calls::answered, crate::specs::Param::ok_param))]
     pub fn set_on_time(mut self, timepos: i64, values: &[i32]) -> ParamAnswer
         ensures { result ≡ set_on_time self timepos values.now }
     {
@@ -227,6 +232,7 @@ impl NoteParam {
 
     // Reserves a cycle, its length and then its values, from `timepos` and the delay on; nothing, where there is no value.
     // Refuses 3, 4.
+    #[tactic(auto, using(crate::proofs::Laid::laid_rest), unfolding(crate::specs::Calls::answered, crate::specs::Param::ok_param, reserved::specs::Setting::cycle_args))]
     pub fn set_on_cycle(mut self, timepos: i64, args: &[i32]) -> ParamAnswer
         ensures { result ≡ set_on_cycle self timepos args.now }
     {
@@ -257,6 +263,7 @@ impl NoteParam {
     }
 
     // Reserves a value for each of the next notes, round and round where repeat stands. Refuses 3, 4.
+    #[tactic(auto, using(crate::proofs::Laid::laid_list), unfolding(crate::specs::Calls::answered))]
     pub fn set_on_note(mut self, values: &[i32]) -> ParamAnswer
         ensures { result ≡ set_on_note self values.now }
     {
@@ -284,6 +291,7 @@ impl NoteParam {
     }
 
     // The value of the reserved curve or cycle at `timepos`, or the default; a curve that is over goes. Refuses 4.
+    #[tactic(auto, unfolding(crate::specs::Calls::given, crate::specs::Param::ok_param))]
     pub fn calc_on_time(mut self, timepos: i64, def: i32) -> ParamValue
         ensures { result ≡ calc_on_time self timepos def }
     {
@@ -309,6 +317,7 @@ impl NoteParam {
     }
 
     // The next value of the reserved list, or the default; a list that is spent goes. Refuses 4.
+    #[tactic(auto, unfolding(crate::specs::Calls::given, crate::specs::Param::ok_param))]
     pub fn calc_on_note(mut self, def: i32) -> ParamValue
         ensures { result ≡ calc_on_note self def }
     {
@@ -333,6 +342,7 @@ impl NoteParam {
     }
 
     // 1 where something is reserved, else 0. Refuses 4.
+    #[tactic(auto, unfolding(crate::specs::Calls::told))]
     pub fn has_reserve(self) -> Told
         ensures { result ≡ has_reserve self }
     {
@@ -348,6 +358,7 @@ impl NoteParam {
     }
 
     // A value limited by the range and then by the maximum, where there is one. Refuses 4.
+    #[tactic(auto, unfolding(crate::specs::Calls::told))]
     pub fn apply_limit(self, value: i32) -> Told
         ensures { result ≡ apply_limit self value }
     {
@@ -364,6 +375,7 @@ impl NoteParam {
     }
 
     // The maximum, or the default where there is none. Refuses 4.
+    #[tactic(auto, unfolding(crate::specs::Calls::told))]
     pub fn max_or(self, def: i32) -> Told
         ensures { result ≡ maximum_or self def }
     {
@@ -381,6 +393,7 @@ impl NoteParam {
     }
 
     // The random width of a value. Refuses 4.
+    #[tactic(auto, unfolding(crate::specs::Calls::answered))]
     pub fn set_random(mut self, random: i32) -> ParamAnswer
         ensures { result ≡ set_random self random }
     {
@@ -400,6 +413,7 @@ impl NoteParam {
     }
 
     // The range of a value. Refuses 4.
+    #[tactic(auto, unfolding(crate::specs::Calls::answered))]
     pub fn set_range(mut self, low: i32, high: i32) -> ParamAnswer
         ensures { result ≡ set_range self low high }
     {
@@ -422,6 +436,7 @@ impl NoteParam {
     }
 
     // No range. Refuses 4.
+    #[tactic(auto, unfolding(crate::specs::Calls::answered))]
     pub fn clear_range(mut self) -> ParamAnswer
         ensures { result ≡ clear_range self }
     {
@@ -442,6 +457,7 @@ impl NoteParam {
     }
 
     // The delay of what is reserved from now on. Refuses 4.
+    #[tactic(auto, unfolding(crate::specs::Calls::answered))]
     pub fn set_delay(mut self, delay: i32) -> ParamAnswer
         ensures { result ≡ set_delay self delay }
     {
@@ -461,6 +477,7 @@ impl NoteParam {
     }
 
     // The maximum of a value. Refuses 4.
+    #[tactic(auto, unfolding(crate::specs::Calls::answered))]
     pub fn set_max(mut self, max: i32) -> ParamAnswer
         ensures { result ≡ set_max self max }
     {
@@ -481,6 +498,7 @@ impl NoteParam {
     }
 
     // No maximum. Refuses 4.
+    #[tactic(auto, unfolding(crate::specs::Calls::answered))]
     pub fn clear_max(mut self) -> ParamAnswer
         ensures { result ≡ clear_max self }
     {
@@ -500,6 +518,7 @@ impl NoteParam {
     }
 
     // Whether a list that is reserved from now on goes round: 0 or 1. Refuses 4.
+    #[tactic(auto, unfolding(crate::specs::Calls::answered))]
     pub fn set_repeat(mut self, repeat: u32) -> ParamAnswer
         ensures { result ≡ set_repeat self repeat }
     {

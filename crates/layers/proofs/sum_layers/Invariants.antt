@@ -20,7 +20,7 @@ use Rattle.layers.proofs.Sums.{summing, summing-at, summing-more}
 use Rattle.layers.proofs.sum_layers.Given as goal
 
 abbrev pub invariant-loop-i : goal.invariant-loop-i
-invariant-loop-i l = (l.i ≤ l.n) × (l.sum ≡ summing (to_z w64 l.timepos) l.initial.sum l.i) × (mag l.sum.value ≤ (l.i + 1) * 2 ^ 32)
+invariant-loop-i l = (l.i ≤ l.n) × (l.sum ≡ summing l.timepos l.initial.sum l.i) × (mag l.sum.value ≤ (l.i + 1) * 2 ^ 32)
 
 abbrev pub decreases-loop-i : goal.decreases-loop-i
 decreases-loop-i l = l.n - l.i
