@@ -10,9 +10,10 @@ use desk::{Called, Desk, answered, new_desk};
 use partcalls::{family1, family2, family3, family4};
 use script::answer::{Answer, one, put_answer, refusal, unknown};
 use script::args::{arg, as_i32};
-use script::pen::{Pen, end_line, flush, in_mode, new_pen};
+use script::pen::{Page, Pen, end_line, flush, in_mode, new_page, new_pen};
 use script::reader::{Head, Place, family_of, first_place, read_call};
 use showing::show;
+use std::io::{Result, Stdin};
 use targetcalls::family7;
 use track::{CcValue, current_cc_value};
 use trackcalls::{family5, family6, family8};
@@ -141,7 +142,7 @@ fn mode_after(op: i64, words: &[i64], pen: Pen) -> Pen {
 fn print_call(
     op: i64,
     pen: Pen,
-    out: &mut [u8],
+    out: &mut Page,
     called: Called,
     events: &[i64],
     second: &[i64],
@@ -164,7 +165,7 @@ fn answer_call(
     events: &mut [i64],
     second: &mut [i64],
     store: &[u8],
-    out: &mut [u8],
+    out: &mut Page,
 ) -> Run {
     let pen = mode_after(h.op, words, run.pen);
     let c = call_first(h.op, words, h.count, run.desk, events, second, store);
@@ -191,15 +192,16 @@ fn over(run: Run, place: Place) -> Run {
 
 // Reads a call, carries it out and prints it.
 fn turn(
+    from: &mut Stdin,
     run: Run,
     space: &mut [u8],
     words: &mut [i64],
     events: &mut [i64],
     second: &mut [i64],
     store: &[u8],
-    out: &mut [u8],
+    out: &mut Page,
 ) -> Run {
-    let h = read_call(space, run.place, words);
+    let h = read_call(from, space, run.place, words);
     let p = h.place;
     if !p.there {
         return over(run, p);
@@ -220,39 +222,42 @@ fn begun() -> Run {
 
 // Carries out the whole script.
 fn play(
+    from: &mut Stdin,
     space: &mut [u8],
     words: &mut [i64],
     events: &mut [i64],
     second: &mut [i64],
     store: &[u8],
-    out: &mut [u8],
-) {
+    out: &mut Page,
+) -> Result<()> {
     let mut run = begun();
     let mut left = MOST_CALLS;
     while 0 < left {
-        run = turn(run, space, words, events, second, store, out);
+        run = turn(from, run, space, words, events, second, store, out);
         left -= 1;
         if !run.place.there {
             left = 0;
         }
     }
-    flush(run.pen, out);
+    flush(run.pen, out)
 }
 
-fn main() {
-    let mut space = io::large_buffer();
-    let mut out = io::large_buffer();
+fn main(rt: HostRuntime) -> Result<()> {
+    let mut from = rt.stdin();
+    let mut space: [u8; 65536] = [0; 65536];
+    let mut out = new_page(rt.stdout());
     let mut words = no_words();
     let mut list = no_events();
     let mut second = no_events();
     let mut store = no_bytes();
     fill_store(&mut store);
     play(
+        &mut from,
         &mut space,
         &mut words,
         &mut list,
         &mut second,
         &store,
         &mut out,
-    );
+    )
 }

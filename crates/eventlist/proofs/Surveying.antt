@@ -18,7 +18,7 @@ use lib.Seq.{length-take-le}
 use Rattle.laws.specs.Lists.{all}
 use Rattle.laws.specs.Moves.{in_front}
 use Rattle.laws.proofs.Bools.{and-off}
-use Rattle.laws.proofs.Compact.{kept, kept-le, kept-drop, kept-keep}
+use Rattle.laws.proofs.Compact.{kept, kept-drop, kept-keep}
 use Rattle.laws.proofs.Leading.{leading_le}
 use Rattle.laws.proofs.Moves.{front-past, front-kept-too, front-taken}
 use Rattle.laws.proofs.Tests.{Left, passed-of, failed-of, ended_of}

@@ -20,7 +20,7 @@ use Rattle.reader.specs.declared.Cursor.{Cursor}
 use Rattle.reader.specs.declared.Found.{Found}
 use Rattle.reader.specs.declared.Outline.{Outline}
 use Rattle.reader.specs.Reading.{kept_in, timely}
-use Rattle.reader.specs.Steps.{tells, rest_of, outlined, counting, moved}
+use Rattle.reader.specs.Steps.{tells, Counts, rest_of, outlined, counting, moved}
 use Rattle.reader.proofs.Kept.{found-few}
 use Rattle.reader.proofs.Rests.{seen-within, rest_goes, rest-ends}
 
@@ -63,6 +63,10 @@ count_none o = ap (λ (n : ℕ). record { code = o.code; kept = n; late = o.late
 count-last : (n : ℕ) (late : Bool) (code : ℕ) → ◌≡◌ {A = Outline} (record { code = code; kept = n; late = late }) (counting n late (outlined (record { code = code; kept = [] })))
 unfolding outlined all
 count-last n late code = ap₂ (λ (m : ℕ) (l : Bool). record { code = code; kept = m; late = l }) (omega arith) (sym (or-none late))
+
+-- one event is kept or none, as is said of it
+pub counts-as : (t : ℕ) (f : Found) {k m : Bool} → k ≡ m → Counts t f m → Counts t f k
+counts-as t f e h = h ∙ ap (λ (x : Bool). cond x 1 0) (sym e)
 
 -- ---- where a pass stands
 abbrev pub begun : Cursor

@@ -17,15 +17,15 @@ use Rattle.reader.specs.Steps.{tells}
 
 -- what a function that reads at a place promises of its answer
 abbrev pub Answers : Found → (ℕ → Seen Event) → Type 0
-Answers r says = ((t : ℕ) → tells t r ≡ says t) × (r.gap < quantity_top)
+Answers r says = record { at_each_time : (t : ℕ) → tells t r ≡ says t; gap_lt_quantity_top : r.gap < quantity_top }
 
 pub answered : (r : Found) {f g : ℕ → Seen Event} → Answers r f → ((t : ℕ) → f t ≡ g t) → Answers r g
-answered r a same = ((λ t. a.0 t ∙ same t), a.1)
+answered r a same = record { at_each_time = λ t. a.at_each_time t ∙ same t; gap_lt_quantity_top = a.gap_lt_quantity_top }
 
 -- what is not known is no event
 pub unknown : (r : Found) (n : ℕ) {P : Type 0} → Answers r (λ t. fault (suc n)) → r.code ≡ 0 → P
 unfolding tells
-unknown r n a z = absurd (omega (arith, ap (λ (s : Seen Event). s.code) (a.0 0), z))
+unknown r n a z = absurd (omega (arith, ap (λ (s : Seen Event). s.code) (a.at_each_time 0), z))
 
 -- ---- a place
 module _ (s : List ℕ) (from used : ℕ) where

@@ -1,5 +1,5 @@
 // What a call answers: its number of document 01's table, and numbers behind it. A refused call has none.
-use crate::pen::{Pen, first, item};
+use crate::pen::{Page, Pen, first, item};
 
 // The first `count` of the values are the answer's; `known` is false for a call that is not there.
 #[derive(Clone, Copy)]
@@ -66,7 +66,7 @@ fn value_at(a: [i64; 8], i: usize) -> i64 {
 }
 
 // The line `op code answers..`, without its end; `op -1` for a call that is not there.
-pub fn put_answer(pen: Pen, out: &mut [u8], op: i64, answer: Answer) -> Pen {
+pub fn put_answer(pen: Pen, out: &mut Page, op: i64, answer: Answer) -> Pen {
     let p = first(pen, out, op);
     if !answer.known {
         return item(p, out, -1);
@@ -74,13 +74,13 @@ pub fn put_answer(pen: Pen, out: &mut [u8], op: i64, answer: Answer) -> Pen {
     put_known(p, out, answer)
 }
 
-fn put_known(pen: Pen, out: &mut [u8], answer: Answer) -> Pen {
+fn put_known(pen: Pen, out: &mut Page, answer: Answer) -> Pen {
     let p = item(pen, out, answer.code as i64);
     let a = answer.values;
     put_values(p, out, a, answer.count)
 }
 
-fn put_values(pen: Pen, out: &mut [u8], a: [i64; 8], count: usize) -> Pen {
+fn put_values(pen: Pen, out: &mut Page, a: [i64; 8], count: usize) -> Pen {
     let mut p = pen;
     let mut i: usize = 0;
     while i < count {

@@ -1,6 +1,28 @@
-// Lines into a buffer that is written out whenever it is nearly full. A section is a letter and numbers, which in
+// Lines into a page that is written out whenever it is nearly full. A section is a letter and numbers, which in
 // full mode are written on a line of their own, and in digest mode go into one number.
-ghost use Rattle.std.specs.Prelude.{◌+◌, ◌<◌, ◌≤◌, length};
+ghost use Rattle.std.specs.Prelude.{◌+◌, ◌<◌, ◌≤◌};
+
+use std::io::{Print, Result, Stdout};
+
+// The bytes of a page.
+const PAGE: usize = 65536;
+
+// What is to be written, where it goes, and what the writes came to: after one that failed nothing more is written, and the
+// last flush tells it.
+#[derive(Drop)]
+pub struct Page {
+    bytes: [u8; PAGE],
+    to: Stdout,
+    wrote: Result<()>,
+}
+
+pub fn new_page(to: Stdout) -> Page {
+    Page {
+        bytes: [0; PAGE],
+        to: to,
+        wrote: Ok(()),
+    }
+}
 
 // The first `used` bytes of the buffer are not written out yet; `digest` is that of the section so far.
 #[derive(Clone, Copy)]
@@ -35,24 +57,31 @@ fn moved(pen: Pen, used: usize) -> Pen {
     }
 }
 
-fn write_front(out: &[u8], n: usize) {
-    if n <= out.len() {
-        io::write_all(1, &out[..n]);
+fn write_front(out: &mut Page, n: usize) {
+    if n <= PAGE {
+        if out.wrote.is_ok() {
+            out.wrote = out.to.write_all(&out.bytes[..n]);
+        }
     }
 }
 
 // Writes out what stands.
-pub fn flush(pen: Pen, out: &[u8]) -> Pen {
+fn written(pen: Pen, out: &mut Page) -> Pen {
     write_front(out, pen.used);
     moved(pen, 0)
 }
 
+// Writes out what stands, and tells what all the writes came to.
+pub fn flush(pen: Pen, out: &mut Page) -> Result<()> {
+    written(pen, out);
+    out.wrote
+}
+
 // The place of the next byte, with room for 64; what stands is written out where there is less.
-fn room(out: &[u8], used: usize) -> usize
-    requires { 64 ≤ length out.now }
-    ensures { result + 64 ≤ length out.now }
+fn room(out: &mut Page, used: usize) -> usize
+    ensures { result + 64 ≤ 65536 }
 {
-    if used <= out.len() - 64 {
+    if used <= PAGE - 64 {
         return used;
     }
     write_front(out, used);
@@ -60,33 +89,27 @@ fn room(out: &[u8], used: usize) -> usize
 }
 
 // A byte.
-pub fn byte(pen: Pen, out: &mut [u8], b: u8) -> Pen {
-    if out.len() < 64 {
-        return pen;
-    }
+pub fn byte(pen: Pen, out: &mut Page, b: u8) -> Pen {
     let at = room(out, pen.used);
-    let p = text::put_byte(out, at, b);
+    let p = text::put_byte(&mut out.bytes, at, b);
     moved(pen, p)
 }
 
 // A number.
-pub fn first(pen: Pen, out: &mut [u8], z: i64) -> Pen {
-    if out.len() < 64 {
-        return pen;
-    }
+pub fn first(pen: Pen, out: &mut Page, z: i64) -> Pen {
     let at = room(out, pen.used);
-    let p = text::put_number(out, at, z);
+    let p = text::put_number(&mut out.bytes, at, z);
     moved(pen, p)
 }
 
 // A space and a number.
-pub fn item(pen: Pen, out: &mut [u8], z: i64) -> Pen {
+pub fn item(pen: Pen, out: &mut Page, z: i64) -> Pen {
     let p = byte(pen, out, b' ');
     first(p, out, z)
 }
 
 // The end of what a call prints.
-pub fn end_line(pen: Pen, out: &mut [u8]) -> Pen {
+pub fn end_line(pen: Pen, out: &mut Page) -> Pen {
     byte(pen, out, b'\n')
 }
 
@@ -105,9 +128,9 @@ fn mixed(digest: u32, half: u32) -> u32 {
 fn lifted(z: i64) -> u64 {
     let n = text::size_of(z);
     if z < 0 {
-        return std::num::wrapping_sub_u64(4611686018427387904, n);
+        return 4611686018427387904u64.wrapping_sub(n);
     }
-    std::num::wrapping_add_u64(4611686018427387904, n)
+    4611686018427387904u64.wrapping_add(n)
 }
 
 fn digested(pen: Pen, z: i64) -> Pen {
@@ -122,7 +145,7 @@ fn digested(pen: Pen, z: i64) -> Pen {
 }
 
 // A section begins.
-pub fn begin(pen: Pen, out: &mut [u8], letter: u8) -> Pen {
+pub fn begin(pen: Pen, out: &mut Page, letter: u8) -> Pen {
     let fresh = Pen {
         used: pen.used,
         full: pen.full,
@@ -134,7 +157,7 @@ pub fn begin(pen: Pen, out: &mut [u8], letter: u8) -> Pen {
 }
 
 // A number of the section.
-pub fn number(pen: Pen, out: &mut [u8], z: i64) -> Pen {
+pub fn number(pen: Pen, out: &mut Page, z: i64) -> Pen {
     if pen.full {
         return item(pen, out, z);
     }
@@ -142,7 +165,7 @@ pub fn number(pen: Pen, out: &mut [u8], z: i64) -> Pen {
 }
 
 // The section ends.
-pub fn end(pen: Pen, out: &mut [u8]) -> Pen {
+pub fn end(pen: Pen, out: &mut Page) -> Pen {
     if pen.full {
         return pen;
     }

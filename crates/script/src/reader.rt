@@ -1,6 +1,7 @@
 // The script, word by word. The bytes are read from standard input a buffer at a time; a buffer holds whole words,
 // so that a word never stands across two of them.
 use crate::args::{as_u32, as_usize, store};
+use std::io::Stdin;
 use text::word_at;
 
 // The bytes from `at` to `end` of the buffer are still to be read. `there` is false once a word was wanted and the
@@ -46,14 +47,14 @@ fn past_end() -> Place {
 }
 
 // The place at which there is something to read, or `there` false.
-fn filled(space: &mut [u8], place: Place) -> Place {
+fn filled(from: &mut Stdin, space: &mut [u8], place: Place) -> Place {
     if !place.there {
         return place;
     }
     if place.at < place.end {
         return place;
     }
-    let n = io::read_full(0, space);
+    let n = streams::read_full(from, space);
     Place {
         at: 0,
         end: n,
@@ -93,33 +94,45 @@ fn word_here(space: &[u8], place: Place) -> Word {
 }
 
 // The next word of the script.
-fn next_word(space: &mut [u8], place: Place) -> Word {
-    let p = filled(space, place);
+fn next_word(from: &mut Stdin, space: &mut [u8], place: Place) -> Word {
+    let p = filled(from, space, place);
     word_here(space, p)
 }
 
 // The next word goes to place i of `words`.
-fn take_word(space: &mut [u8], place: Place, words: &mut [i64], i: usize) -> Place {
-    let w = next_word(space, place);
+fn take_word(
+    from: &mut Stdin,
+    space: &mut [u8],
+    place: Place,
+    words: &mut [i64],
+    i: usize,
+) -> Place {
+    let w = next_word(from, space, place);
     store(words, i, w.value);
     w.place
 }
 
 // The next n words go to the front of `words`.
-fn take_words(space: &mut [u8], place: Place, words: &mut [i64], n: usize) -> Place {
+fn take_words(
+    from: &mut Stdin,
+    space: &mut [u8],
+    place: Place,
+    words: &mut [i64],
+    n: usize,
+) -> Place {
     let mut p = place;
     let mut i: usize = 0;
     while i < n {
-        p = take_word(space, p, words, i);
+        p = take_word(from, space, p, words, i);
         i += 1;
     }
     p
 }
 
 // The two numbers in front of a call's arguments; a count outside 0 to 4096 ends the script.
-fn read_head(space: &mut [u8], place: Place) -> Head {
-    let op = next_word(space, place);
-    let n = next_word(space, op.place);
+fn read_head(from: &mut Stdin, space: &mut [u8], place: Place) -> Head {
+    let op = next_word(from, space, place);
+    let n = next_word(from, space, op.place);
     let k = n.value;
     let p = n.place;
     if (k < 0) | (4096 < k) {
@@ -137,9 +150,9 @@ fn read_head(space: &mut [u8], place: Place) -> Head {
 }
 
 // A call's head; its arguments go to the front of `words`.
-pub fn read_call(space: &mut [u8], place: Place, words: &mut [i64]) -> Head {
-    let h = read_head(space, place);
-    let p = take_words(space, h.place, words, h.count);
+pub fn read_call(from: &mut Stdin, space: &mut [u8], place: Place, words: &mut [i64]) -> Head {
+    let h = read_head(from, space, place);
+    let p = take_words(from, space, h.place, words, h.count);
     Head {
         op: h.op,
         count: h.count,

@@ -12,7 +12,7 @@ mod written;
 use desk::Desk;
 use numbered::{budget_row, show_options, track_row};
 use played::{show_named, show_params};
-use script::pen::Pen;
+use script::pen::{Page, Pen};
 use script::reader::family_of;
 use stored::{Row, show_row};
 use waiting::show_table;
@@ -66,7 +66,7 @@ fn numbers_of(letter: u8, desk: Desk) -> Row {
 fn section(
     letter: u8,
     pen: Pen,
-    out: &mut [u8],
+    out: &mut Page,
     desk: Desk,
     events: &[i64],
     second: &[i64],
@@ -89,7 +89,7 @@ fn section(
 pub fn show(
     op: i64,
     pen: Pen,
-    out: &mut [u8],
+    out: &mut Page,
     desk: Desk,
     events: &[i64],
     second: &[i64],

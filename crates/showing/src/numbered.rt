@@ -3,7 +3,7 @@ use crate::stored::{Row, counted, put_row, row_of};
 use budget::Budget;
 use desk::Desk;
 use desk::lists::widened;
-use script::pen::{Pen, begin, end, number};
+use script::pen::{Page, Pen, begin, end, number};
 use state::{OPTIONS, Track};
 use values::WriteOption;
 
@@ -78,7 +78,7 @@ fn option_row(key: usize, o: WriteOption) -> Row {
 }
 
 // An option, where anything is set.
-fn put_if_set(pen: Pen, out: &mut [u8], key: usize, o: WriteOption) -> Pen {
+fn put_if_set(pen: Pen, out: &mut Page, key: usize, o: WriteOption) -> Pen {
     if is_set(o) {
         return put_row(pen, out, option_row(key, o));
     }
@@ -106,7 +106,7 @@ fn count_set(options: [WriteOption; OPTIONS]) -> usize {
     n
 }
 
-fn put_options(pen: Pen, out: &mut [u8], options: [WriteOption; OPTIONS]) -> Pen {
+fn put_options(pen: Pen, out: &mut Page, options: [WriteOption; OPTIONS]) -> Pen {
     let mut p = pen;
     let mut key: usize = 0;
     while key < OPTIONS {
@@ -117,7 +117,7 @@ fn put_options(pen: Pen, out: &mut [u8], options: [WriteOption; OPTIONS]) -> Pen
 }
 
 // O.
-pub fn show_options(pen: Pen, out: &mut [u8], desk: Desk) -> Pen {
+pub fn show_options(pen: Pen, out: &mut Page, desk: Desk) -> Pen {
     let track = desk.track;
     let options = track.options;
     let a = begin(pen, out, b'O');

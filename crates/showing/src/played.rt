@@ -4,7 +4,7 @@ use desk::lists::widened;
 use desk::{Desk, param_at, param_of};
 use params::NoteParam;
 use reserved::Reserve;
-use script::pen::{Pen, begin, end};
+use script::pen::{Page, Pen, begin, end};
 use state::Track;
 
 // Kind, start, length, index, cycling.
@@ -48,7 +48,7 @@ fn limits_row(n: NoteParam) -> Row {
     )
 }
 
-fn put_param(pen: Pen, out: &mut [u8], n: NoteParam) -> Pen {
+fn put_param(pen: Pen, out: &mut Page, n: NoteParam) -> Pen {
     let r = n.reserve;
     let list = r.values;
     let a = put_row(pen, out, reserve_row(r));
@@ -57,14 +57,14 @@ fn put_param(pen: Pen, out: &mut [u8], n: NoteParam) -> Pen {
 }
 
 // P of the parameter that the call named.
-pub fn show_named(pen: Pen, out: &mut [u8], desk: Desk) -> Pen {
+pub fn show_named(pen: Pen, out: &mut Page, desk: Desk) -> Pen {
     let n = param_at(desk, desk.named);
     let p = begin(pen, out, b'P');
     let q = put_param(p, out, n);
     end(q, out)
 }
 
-fn put_params(pen: Pen, out: &mut [u8], track: Track) -> Pen {
+fn put_params(pen: Pen, out: &mut Page, track: Track) -> Pen {
     let mut p = pen;
     let mut i: usize = 0;
     while i < 5 {
@@ -75,7 +75,7 @@ fn put_params(pen: Pen, out: &mut [u8], track: Track) -> Pen {
 }
 
 // P of all five.
-pub fn show_params(pen: Pen, out: &mut [u8], desk: Desk) -> Pen {
+pub fn show_params(pen: Pen, out: &mut Page, desk: Desk) -> Pen {
     let track = desk.track;
     let a = begin(pen, out, b'P');
     let b = put_params(a, out, track);

@@ -3,7 +3,7 @@
 use counted::{LIST_LIMIT, Numbers};
 use desk::MOST_RECORDS;
 use desk::lists::widened;
-use script::pen::{Pen, begin, end, number};
+use script::pen::{Page, Pen, begin, end, number};
 
 // The first `count` numbers are the row's.
 #[derive(Clone, Copy)]
@@ -71,7 +71,7 @@ fn number_in(row: Row, i: usize) -> i64 {
     0
 }
 
-pub fn put_row(pen: Pen, out: &mut [u8], row: Row) -> Pen {
+pub fn put_row(pen: Pen, out: &mut Page, row: Row) -> Pen {
     let n = row.count;
     let mut p = pen;
     let mut i: usize = 0;
@@ -91,7 +91,7 @@ fn item_in(list: Numbers, i: usize) -> i64 {
 }
 
 // A stored list: its count, and each number.
-pub fn put_list(pen: Pen, out: &mut [u8], list: Numbers) -> Pen {
+pub fn put_list(pen: Pen, out: &mut Page, list: Numbers) -> Pen {
     let n = list.count;
     let mut p = number(pen, out, counted(n));
     let mut i: usize = 0;
@@ -102,7 +102,7 @@ pub fn put_list(pen: Pen, out: &mut [u8], list: Numbers) -> Pen {
     p
 }
 
-pub fn put_entry(pen: Pen, out: &mut [u8], e: Entry) -> Pen {
+pub fn put_entry(pen: Pen, out: &mut Page, e: Entry) -> Pen {
     let row = e.row;
     let p = put_row(pen, out, row);
     if !e.listed {
@@ -113,7 +113,7 @@ pub fn put_entry(pen: Pen, out: &mut [u8], e: Entry) -> Pen {
 }
 
 // A section that is a row.
-pub fn show_row(pen: Pen, out: &mut [u8], letter: u8, row: Row) -> Pen {
+pub fn show_row(pen: Pen, out: &mut Page, letter: u8, row: Row) -> Pen {
     let p = begin(pen, out, letter);
     let q = put_row(p, out, row);
     end(q, out)

@@ -5,7 +5,7 @@ use cycles::{Cycle, PLACES};
 use desk::Desk;
 use desk::lists::widened;
 use layers::{LAYER_LIMIT, Layer, Layers};
-use script::pen::{Pen, begin, end, number};
+use script::pen::{Page, Pen, begin, end, number};
 use state::Track;
 use tables::{NoteTable, OnNoteSine, OnNoteValues, OnNoteWave, SineTable, WaveTable};
 
@@ -171,7 +171,7 @@ fn count_in(letter: u8, track: Track) -> usize {
 // Its first n entries.
 fn put_entries(
     pen: Pen,
-    out: &mut [u8],
+    out: &mut Page,
     letter: u8,
     track: Track,
     cycles: [Cycle; PLACES],
@@ -186,7 +186,7 @@ fn put_entries(
     p
 }
 
-pub fn show_table(pen: Pen, out: &mut [u8], letter: u8, desk: Desk) -> Pen {
+pub fn show_table(pen: Pen, out: &mut Page, letter: u8, desk: Desk) -> Pen {
     let track = desk.track;
     let cycles = desk.cycles;
     let n = count_in(letter, track);

@@ -3,7 +3,7 @@ use crate::stored::counted;
 use desk::MOST_RECORDS;
 use eventlist::WIDTH;
 use script::args::{arg, as_usize};
-use script::pen::{Pen, begin, end, number};
+use script::pen::{Page, Pen, begin, end, number};
 
 // Number `field` of the record at `place`.
 fn number_at(events: &[i64], place: usize, field: usize) -> i64 {
@@ -23,7 +23,7 @@ fn byte_at(store: &[u8], i: usize) -> i64 {
 }
 
 // The bytes of the store from `from` on that are below `to`.
-fn put_bytes(pen: Pen, out: &mut [u8], store: &[u8], from: usize, to: usize) -> Pen {
+fn put_bytes(pen: Pen, out: &mut Page, store: &[u8], from: usize, to: usize) -> Pen {
     let mut p = pen;
     let mut i = from;
     while i < to {
@@ -34,7 +34,7 @@ fn put_bytes(pen: Pen, out: &mut [u8], store: &[u8], from: usize, to: usize) -> 
 }
 
 // A stretch of the store, where it is inside.
-fn put_stretch(pen: Pen, out: &mut [u8], store: &[u8], offset: i64, len: i64) -> Pen {
+fn put_stretch(pen: Pen, out: &mut Page, store: &[u8], offset: i64, len: i64) -> Pen {
     if (offset < 0) | (len < 0) {
         return pen;
     }
@@ -50,7 +50,7 @@ fn put_stretch(pen: Pen, out: &mut [u8], store: &[u8], offset: i64, len: i64) ->
 }
 
 // Kind, time, channel, v1, v2, v3.
-fn put_fields(pen: Pen, out: &mut [u8], events: &[i64], place: usize) -> Pen {
+fn put_fields(pen: Pen, out: &mut Page, events: &[i64], place: usize) -> Pen {
     let mut p = pen;
     let mut k: usize = 0;
     while k < 6 {
@@ -61,14 +61,14 @@ fn put_fields(pen: Pen, out: &mut [u8], events: &[i64], place: usize) -> Pen {
 }
 
 // A record: its first six numbers, the length of its data and its bytes.
-fn put_record(pen: Pen, out: &mut [u8], events: &[i64], store: &[u8], place: usize) -> Pen {
+fn put_record(pen: Pen, out: &mut Page, events: &[i64], store: &[u8], place: usize) -> Pen {
     let p = put_fields(pen, out, events, place);
     let len = number_at(events, place, 7);
     let q = number(p, out, len);
     put_stretch(q, out, store, number_at(events, place, 6), len)
 }
 
-fn put_records(pen: Pen, out: &mut [u8], events: &[i64], count: usize, store: &[u8]) -> Pen {
+fn put_records(pen: Pen, out: &mut Page, events: &[i64], count: usize, store: &[u8]) -> Pen {
     let mut p = pen;
     let mut i: usize = 0;
     while i < count {
@@ -81,7 +81,7 @@ fn put_records(pen: Pen, out: &mut [u8], events: &[i64], count: usize, store: &[
 // E, or R: the count, and each record.
 pub fn show_list(
     pen: Pen,
-    out: &mut [u8],
+    out: &mut Page,
     letter: u8,
     events: &[i64],
     count: usize,
@@ -94,7 +94,7 @@ pub fn show_list(
 }
 
 // The first `count` numbers.
-fn put_numbers(pen: Pen, out: &mut [u8], numbers: &[i64], count: usize) -> Pen {
+fn put_numbers(pen: Pen, out: &mut Page, numbers: &[i64], count: usize) -> Pen {
     let mut p = pen;
     let mut i: usize = 0;
     while i < count {
@@ -104,7 +104,7 @@ fn put_numbers(pen: Pen, out: &mut [u8], numbers: &[i64], count: usize) -> Pen {
     p
 }
 
-pub fn show_numbers(pen: Pen, out: &mut [u8], letter: u8, numbers: &[i64], count: usize) -> Pen {
+pub fn show_numbers(pen: Pen, out: &mut Page, letter: u8, numbers: &[i64], count: usize) -> Pen {
     let p = begin(pen, out, letter);
     let q = put_numbers(p, out, numbers, count);
     end(q, out)

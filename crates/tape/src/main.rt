@@ -5,6 +5,7 @@
 ghost use Rattle.std.specs.Prelude.{◌≡◌, length};
 
 use lines::PAGE;
+use std::io::{Print, Result, Stdout};
 
 // One byte more than a tape may have, so that a longer one shows.
 fn no_tape() -> [u8; 16385]
@@ -26,24 +27,33 @@ fn blank_page() -> [u8; PAGE]
     [0; PAGE]
 }
 
-fn write_front(page: &[u8], n: usize) {
+fn write_front(to: Stdout, page: &[u8], n: usize) -> Result<()> {
     if n <= page.len() {
-        io::write_all(1, &page[..n]);
+        return to.write_all(&page[..n]);
     }
+    Ok(())
 }
 
 // Plays the tape that the first n bytes of `space` are.
-fn print_first(space: &[u8], n: usize, events: &mut [i64], page: &mut [u8]) {
+fn print_first(
+    to: Stdout,
+    space: &[u8],
+    n: usize,
+    events: &mut [i64],
+    page: &mut [u8],
+) -> Result<()> {
     if n <= space.len() {
         let long = spool::print_tape(&space[..n], events, page);
-        write_front(page, long);
+        return write_front(to, page, long);
     }
+    Ok(())
 }
 
-fn main() {
+fn main(rt: HostRuntime) -> Result<()> {
+    let mut from = rt.stdin();
     let mut space = no_tape();
     let mut events = no_events();
     let mut page = blank_page();
-    let n = io::read_full(0, &mut space);
-    print_first(&space, n, &mut events, &mut page);
+    let n = streams::read_full(&mut from, &mut space);
+    print_first(rt.stdout(), &space, n, &mut events, &mut page)
 }

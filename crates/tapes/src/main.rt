@@ -6,6 +6,8 @@
 ghost use Rattle.std.specs.Prelude.{◌≡◌, ◌+◌, ◌≤◌, ◌<◌, length};
 
 use lines::PAGE;
+use std::io::{Print, Result, Stdin, Stdout};
+use streams::read_full;
 
 // A stream has at most so many tapes.
 const MOST_TAPES: u64 = 100000000;
@@ -46,9 +48,9 @@ fn length_in(head: &[u8]) -> Next {
     Next::Tape(text::bits_at(head, 0) as usize)
 }
 
-fn next_length() -> Next {
+fn next_length(from: &mut Stdin) -> Next {
     let mut head: [u8; 4] = [0; 4];
-    let n = io::read_full(0, &mut head);
+    let n = read_full(from, &mut head);
     if n < 4 {
         return Next::End(n);
     }
@@ -65,22 +67,22 @@ fn least(a: usize, b: usize) -> usize
 }
 
 // Reads n bytes to the front of `space`, or as many as there are; answers how many.
-fn read_front(space: &mut [u8], n: usize) -> usize
+fn read_front(from: &mut Stdin, space: &mut [u8], n: usize) -> usize
     ensures { result ≤ n }
 {
     if n <= space.len() {
-        let got = io::read_full(0, &mut space[..n]);
+        let got = read_full(from, &mut space[..n]);
         return least(got, n);
     }
     0
 }
 
 // Passes over some of the bytes that are left; answers how many, 0 at the stream's end.
-fn skip_part(left: usize) -> usize
+fn skip_part(from: &mut Stdin, left: usize) -> usize
     ensures { result ≤ left }
 {
-    let mut space = io::large_buffer();
-    let n = read_front(&mut space, least(left, 65536));
+    let mut space: [u8; 65536] = [0; 65536];
+    let n = read_front(from, &mut space, least(left, 65536));
     least(n, left)
 }
 
@@ -96,13 +98,13 @@ fn rest_of(left: usize, part: usize) -> usize
 }
 
 // Passes over n bytes, or as many as there are; answers how many.
-fn skip(n: usize) -> usize
+fn skip(from: &mut Stdin, n: usize) -> usize
     ensures { result ≤ n }
 {
     let mut done: usize = 0;
     let mut left = n;
     while 0 < left {
-        let part = skip_part(left);
+        let part = skip_part(from, left);
         left = rest_of(left, part);
         done += part;
     }
@@ -110,78 +112,84 @@ fn skip(n: usize) -> usize
 }
 
 // Reads a tape of `long` bytes, those that show what it is to the front of `space`; answers how many there were.
-fn read_tape(space: &mut [u8], long: usize) -> usize {
+fn read_tape(from: &mut Stdin, space: &mut [u8], long: usize) -> usize {
     if long <= LONGEST {
-        return read_front(space, long);
+        return read_front(from, space, long);
     }
-    let n = read_front(space, LONGEST);
+    let n = read_front(from, space, LONGEST);
     if n < LONGEST {
         return n;
     }
-    LONGEST + skip(long - LONGEST)
+    LONGEST + skip(from, long - LONGEST)
 }
 
-fn write_front(page: &[u8], n: usize) {
+fn write_front(to: Stdout, page: &[u8], n: usize) -> Result<()> {
     if n <= page.len() {
-        io::write_all(1, &page[..n]);
+        return to.write_all(&page[..n]);
     }
+    Ok(())
 }
 
 // Plays the tape that the first n bytes of `space` are, on an empty list.
-fn print_first(space: &[u8], n: usize, page: &mut [u8]) {
+fn print_first(to: Stdout, space: &[u8], n: usize, page: &mut [u8]) -> Result<()> {
     let mut events = no_events();
     if n <= space.len() {
         let long = spool::print_tape(&space[..n], &mut events, page);
-        write_front(page, long);
+        return write_front(to, page, long);
     }
+    Ok(())
 }
 
 // Says where a stream ended: after `there` bytes of `long`.
-fn print_end(inside: &[u8], there: usize, long: usize) {
-    io::write_all(1, b"the stream ends inside a ");
-    io::write_all(1, inside);
-    io::print_decimal(1, there as u64);
-    io::write_all(1, b" bytes of ");
-    io::print_decimal(1, long as u64);
-    io::write_all(1, b"\n");
+fn print_end(to: Stdout, inside: &str, there: usize, long: usize) -> Result<()> {
+    println!(to; "the stream ends inside a {inside}{there} bytes of {long}")
 }
 
 // Reads and plays a tape of `long` bytes; false where the stream ends inside it.
-fn play_next(space: &mut [u8], page: &mut [u8], long: usize) -> bool {
-    let there = read_tape(space, long);
+fn play_next(
+    from: &mut Stdin,
+    to: Stdout,
+    space: &mut [u8],
+    page: &mut [u8],
+    long: usize,
+) -> Result<bool> {
+    let there = read_tape(from, space, long);
     if there < long {
-        print_end(b"tape: ", there, long);
-        return false;
+        print_end(to, "tape: ", there, long)?;
+        return Ok(false);
     }
-    print_first(space, least(long, LONGEST), page);
-    true
+    print_first(to, space, least(long, LONGEST), page)?;
+    Ok(true)
 }
 
 // Reads and plays the next tape; false at the stream's end.
-fn turn(space: &mut [u8], page: &mut [u8]) -> bool {
-    match next_length() {
-        Next::Tape(long) => play_next(space, page, long),
+fn turn(from: &mut Stdin, to: Stdout, space: &mut [u8], page: &mut [u8]) -> Result<bool> {
+    match next_length(from) {
+        Next::Tape(long) => play_next(from, to, space, page, long),
         Next::End(n) => {
             if 0 < n {
-                print_end(b"length: ", n, 4);
+                print_end(to, "length: ", n, 4)?;
             }
-            false
+            Ok(false)
         }
     }
 }
 
-fn play_all(space: &mut [u8], page: &mut [u8]) {
+fn play_all(from: &mut Stdin, to: Stdout, space: &mut [u8], page: &mut [u8]) -> Result<()> {
     let mut left = MOST_TAPES;
     while 0 < left {
         left -= 1;
-        if !turn(space, page) {
+        let goes_on = turn(from, to, space, page)?;
+        if !goes_on {
             left = 0;
         }
     }
+    Ok(())
 }
 
-fn main() {
+fn main(rt: HostRuntime) -> Result<()> {
+    let mut from = rt.stdin();
     let mut space = no_tape();
     let mut page = blank_page();
-    play_all(&mut space, &mut page);
+    play_all(&mut from, rt.stdout(), &mut space, &mut page)
 }

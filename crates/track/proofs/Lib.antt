@@ -6,4 +6,4 @@ pub mod Filled
 pub mod Sound
 pub mod SoundLent
 pub mod Series
-pub mod Numbers
+pub mod Codes

@@ -22,41 +22,41 @@ use contract.Monad.{Fun, conj, conj_l, conj_r, fact, fact_i, fact_use}
 use denote.Triple.Entry.{Args, Res}
 use denote.Triple.Spec.{Spec}
 use denote.Triple.Clauses.{Ended, Clauses, Lasts, at_exit, closing}
-use Rattle.numbers.proofs as numbers
+use Rattle.numbers.specs.contracts as numbers
 use Rattle.budget.specs.declared.Budget.{Budget}
-use Rattle.budget.proofs as budget
-use Rattle.events.proofs as events
-use Rattle.eventlist.proofs as eventlist
-use Rattle.sorting.proofs as sorting
-use Rattle.chunks.proofs as chunks
-use Rattle.reader.proofs as reader
-use Rattle.profile.proofs as profile
-use Rattle.notes.proofs as notes
-use Rattle.cutting.proofs as cutting
-use Rattle.sines.proofs as sines
+use Rattle.budget.specs.contracts as budget
+use Rattle.events.specs.contracts as events
+use Rattle.eventlist.specs.contracts as eventlist
+use Rattle.sorting.specs.contracts as sorting
+use Rattle.chunks.specs.contracts as chunks
+use Rattle.reader.specs.contracts as reader
+use Rattle.profile.specs.contracts as profile
+use Rattle.notes.specs.contracts as notes
+use Rattle.cutting.specs.contracts as cutting
+use Rattle.sines.specs.contracts as sines
 use Rattle.sines.proofs.Named.{kind-once}
 use Rattle.reserved.specs.declared.CycleValue.{CycleValue}
 use Rattle.reserved.specs.declared.CycleValue.TheVariants.{Value, Nothing, Refused}
 use Rattle.laws.specs.Answers.{Said}
 use Rattle.reserved.specs.Cycle.{said}
 use Rattle.reserved.specs.Reserve.{first_or}
-use Rattle.reserved.proofs as reserved
-use Rattle.params.proofs as params
-use Rattle.layers.proofs as layers
-use Rattle.values.proofs as values
+use Rattle.reserved.specs.contracts as reserved
+use Rattle.params.specs.contracts as params
+use Rattle.layers.specs.contracts as layers
+use Rattle.values.specs.contracts as values
 use Rattle.cycles.specs.declared.Cycle.{Cycle}
-use Rattle.cycles.proofs as cycles
-use Rattle.tables.proofs as tables
-use Rattle.state.proofs as state
-use Rattle.playing.proofs as playing
-use Rattle.drawing.proofs as drawing
-use Rattle.cycling.proofs as cycling
-use Rattle.noting.proofs as noting
-use Rattle.reserving.proofs as reserving
-use Rattle.waving.proofs as waving
-use Rattle.lending.proofs as lending
-use Rattle.loans.proofs as loans
-use Rattle.track.proofs as own
+use Rattle.cycles.specs.contracts as cycles
+use Rattle.tables.specs.contracts as tables
+use Rattle.state.specs.contracts as state
+use Rattle.playing.specs.contracts as playing
+use Rattle.drawing.specs.contracts as drawing
+use Rattle.cycling.specs.contracts as cycling
+use Rattle.noting.specs.contracts as noting
+use Rattle.reserving.specs.contracts as reserving
+use Rattle.waving.specs.contracts as waving
+use Rattle.lending.specs.contracts as lending
+use Rattle.loans.specs.contracts as loans
+use Rattle.track.specs.contracts as own
 use Rattle.playing.proofs.Answers.{ap₃}
 
 -- ---- a contract that one outcome alone satisfies

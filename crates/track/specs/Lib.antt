@@ -1,3 +1,3 @@
 pub mod Reading
 pub mod Series
-pub mod Numbers
+pub mod Codes

@@ -1,5 +1,4 @@
 use mathlib.Core.Path.{refl}
-use borrow.Author.Rules.{rules}
 use Rattle.laws.proofs.Tests.{both}
 use Rattle.budget.specs.Budgets.{ok_budget}
 use Rattle.budget.proofs.budget_ok.Goals as goal

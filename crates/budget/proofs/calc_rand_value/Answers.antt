@@ -1,6 +1,6 @@
 -- Both answers are `rolled` at the test that led to them: where there is no random the value is itself.
 use mathlib.Core.Path.{◌≡◌, ap₂, ◌∙◌}
-use borrow.Author.Rules.{rules, sfits_of}
+use borrow.Author.Rules.{sfits_of}
 use mathlib.Core.Bool.{false}
 use lib.Signed.{le_z}
 use lib.IntN.{ℤ, pos}

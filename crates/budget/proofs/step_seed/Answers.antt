@@ -1,4 +1,3 @@
-use borrow.Author.Rules.{rules}
 use Rattle.budget.proofs.step_seed.Goals as goal
 
 pub returns : goal.returns

@@ -2,7 +2,7 @@
 -- leaves the answer to `weigh`.
 use borrow.Author.Rules.{rules}
 use mathlib.Core.Bool.{true}
-use mathlib.Core.Path.{◌≡◌}
+use mathlib.Core.Path.{◌≡◌, sym, ◌∙◌}
 use mathlib.Core.List.{List}
 use Prim.Native.Nat.{◌-◌, ◌≤◌}
 use native.Mathlib.Omega.{arith}
@@ -50,11 +50,11 @@ timed-at-3 c = to_z-of_z (time-fits c.loop-i.p.time c.loop-i.invariant.1.timed)
 
 -- an event that was met and is well
 met : (c : goal.Else-not-is_well) → well_after c.loop-i.p.time c.read_event-e.result ≡ true
-met c = rw (timed-at-2 c) at (yes c.is_well.ensures c.if-not-is_well.false)
+met c = rw (timed-at-2 c) at (sym c.is_well.ensures ∙ c.if-not-is_well.false)
 
 -- an event that was met and is well
 met-at-2 : (c : goal.After-move_on-p) → well_after c.loop-i.p.time c.read_event-e.result ≡ true
-met-at-2 c = rw (timed-at-3 c) at (yes c.is_well.ensures c.if-not-is_well.false)
+met-at-2 c = rw (timed-at-3 c) at (sym c.is_well.ensures ∙ c.if-not-is_well.false)
 
 pub loop-i-init : goal.loop-i-init
 loop-i-init c = (omega arith, weigh-begun c.args.store (events_of c.args.events.now c.args.count))

@@ -258,48 +258,48 @@ module _ (c : goal.After-short) where
   v1-fits-at-13 = record { sfits = c.struct_told-1.given.1.1.1.0.1 }
 
 is-on : (c : goal.After-struct_told-in-0-2-1) → (event c).kind ≡ note_on
-is-on c = is-kind (kind_fits c) 0 (lit< tt) c.in-0-own.keys1
+is-on c = is-kind (kind_fits c) 0 (lit< tt) c.in-0.in-0-own.keys1
 
 is-on-at-2 : (c : goal.After-struct_told-in-0-3-1) → (event-at-2 c).kind ≡ note_on
-is-on-at-2 c = is-kind (kind_fits-at-2 c) 0 (lit< tt) c.in-0-own.keys1
+is-on-at-2 c = is-kind (kind_fits-at-2 c) 0 (lit< tt) c.in-0.in-0-own.keys1
 
 is-on-at-3 : (c : goal.After-long) → (event-at-9 c).kind ≡ note_on
-is-on-at-3 c = is-kind (kind_fits-at-9 c) 0 (lit< tt) c.in-0-own.keys1
+is-on-at-3 c = is-kind (kind_fits-at-9 c) 0 (lit< tt) c.in-0.in-0-own.keys1
 
 is-off : (c : goal.After-struct_told-in-1-2-1) → (event-at-3 c).kind ≡ note_off
-is-off c = is-kind (kind_fits-at-3 c) 1 (lit< tt) c.in-1-own.keys2
+is-off c = is-kind (kind_fits-at-3 c) 1 (lit< tt) c.in-1.in-1-own.keys2
 
 is-off-at-2 : (c : goal.After-long-in-1) → (event-at-10 c).kind ≡ note_off
-is-off-at-2 c = is-kind (kind_fits-at-10 c) 1 (lit< tt) c.in-1-own.keys2
+is-off-at-2 c = is-kind (kind_fits-at-10 c) 1 (lit< tt) c.in-1.in-1-own.keys2
 
 is_control : (c : goal.After-struct_told-in-2-2-1) → (event-at-4 c).kind ≡ control_change
-is_control c = is-kind (kind_fits-at-4 c) 2 (lit< tt) c.in-2-own.keys3
+is_control c = is-kind (kind_fits-at-4 c) 2 (lit< tt) c.in-2.in-2-own.keys3
 
 is_control-at-2 : (c : goal.After-struct_told-in-2-3-1) → (event-at-5 c).kind ≡ control_change
-is_control-at-2 c = is-kind (kind_fits-at-5 c) 2 (lit< tt) c.in-2-own.keys3
+is_control-at-2 c = is-kind (kind_fits-at-5 c) 2 (lit< tt) c.in-2.in-2-own.keys3
 
 is_control-at-3 : (c : goal.After-long-in-2) → (event-at-11 c).kind ≡ control_change
-is_control-at-3 c = is-kind (kind_fits-at-11 c) 2 (lit< tt) c.in-2-own.keys3
+is_control-at-3 c = is-kind (kind_fits-at-11 c) 2 (lit< tt) c.in-2.in-2-own.keys3
 
 is-bend : (c : goal.After-struct_told-in-3-2-1) → (event-at-6 c).kind ≡ pitch_bend
-is-bend c = is-kind (kind_fits-at-6 c) 3 (lit< tt) c.in-3-own.keys4
+is-bend c = is-kind (kind_fits-at-6 c) 3 (lit< tt) c.in-3.in-3-own.keys4
 
 is-bend-at-2 : (c : goal.After-struct_told-in-3-3-1) → (event-at-7 c).kind ≡ pitch_bend
-is-bend-at-2 c = is-kind (kind_fits-at-7 c) 3 (lit< tt) c.in-3-own.keys4
+is-bend-at-2 c = is-kind (kind_fits-at-7 c) 3 (lit< tt) c.in-3.in-3-own.keys4
 
 is-bend-at-3 : (c : goal.After-long-in-3) → (event-at-12 c).kind ≡ pitch_bend
-is-bend-at-3 c = is-kind (kind_fits-at-12 c) 3 (lit< tt) c.in-3-own.keys4
+is-bend-at-3 c = is-kind (kind_fits-at-12 c) 3 (lit< tt) c.in-3.in-3-own.keys4
 
 is-program : (c : goal.After-struct_told-in_default-2-1) → (event-at-8 c).kind ≡ voice
 is-program c =
     let f = kind_fits-at-8 c in
-    let r = c.in_default-own.rest in
+    let r = c.in_default.in_default-own.rest in
     is-voice (event-at-8 c) (ok-at-8 c) (not-kind f 0 (lit< tt) r.0.0.0.1) (not-kind f 1 (lit< tt) r.0.0.1) (not-kind f 2 (lit< tt) r.0.1) (not-kind f 3 (lit< tt) r.1)
 
 is-program-at-2 : (c : goal.After-short) → (event-at-13 c).kind ≡ voice
 is-program-at-2 c =
     let f = kind_fits-at-13 c in
-    let r = c.in_default-own.rest in
+    let r = c.in_default.in_default-own.rest in
     is-voice (event-at-13 c) (ok-at-13 c) (not-kind f 0 (lit< tt) r.0.0.0.1) (not-kind f 1 (lit< tt) r.0.0.1) (not-kind f 2 (lit< tt) r.0.1) (not-kind f 3 (lit< tt) r.1)
 
 pub data-requires : goal.data-requires

@@ -67,6 +67,6 @@ returns c =
     put-behind a.p.at o (quantity_of (gap_after t a.e)) (message_of a.e) h
     (rw n at g.0)
     (rw n at g.1)
-    (p.0 ∙ ap (λ (l : List ℕ). laid c.put_quantity-q.result l c.put_quantity-q.new.0) y)
+    (p.0 ∙ ap (λ (l : List ℕ). laid c.put_quantity-q.result l c.put_quantity-q.new.out) y)
     (p.1 ∙ ap (λ (l : List ℕ). c.put_quantity-q.result + length l) y) in
     (b.0, pen b.1 (to_z-of_z (time-fits a.e.time w.time)))

@@ -1,4 +1,5 @@
 -- `weigh` meets its contract: what was seen of the events passed, and those left, say the answer (WeighedTo, of Passes).
+use mathlib.Core.Path.{sym, ◌∙◌}
 use borrow.Author.Rules.{rules}
 use mathlib.Core.List.{List}
 use Prim.Native.Nat.{◌-◌, ◌≤◌}
@@ -45,12 +46,12 @@ loop-i-init c = (omega arith, weigh-begun c.args.store (events_of c.args.events.
 
 pub returns-then-not-event_ok : goal.returns-then-not-event_ok
 returns-then-not-event_ok c =
-    weigh-failed c.loop-i.invariant.1 (next c) (no c.event_ok.ensures c.if-not-event_ok.true)
+    weigh-failed c.loop-i.invariant.1 (next c) (sym c.event_ok.ensures ∙ c.if-not-event_ok.true)
 
 pub one_more-t-requires : goal.one_more-t-requires
 one_more-t-requires c =
     let w = c.loop-i.invariant.1 in
-    let ok = yes c.event_ok.ensures c.if-not-event_ok.false in
+    let ok = sym c.event_ok.ensures ∙ c.if-not-event_ok.false in
     (w.timed, ((storable c.args.store c.read_event-e.result ok).time, omega (arith, w.few, length-rows_of c.args.events.now)))
 
 pub overflow_add-i : goal.overflow_add-i
@@ -61,7 +62,7 @@ loop-i-smaller c = omega arith
 
 pub loop-i-preserved : goal.loop-i-preserved
 loop-i-preserved c =
-    let w = weigh-passed c.loop-i.invariant.1 (next-at-2 c) (yes c.event_ok.ensures c.if-not-event_ok.false) in
+    let w = weigh-passed c.loop-i.invariant.1 (next-at-2 c) (sym c.event_ok.ensures ∙ c.if-not-event_ok.false) in
     (omega arith, rw c.one_more-t.ensures w)
 
 pub overflow_add-result : goal.overflow_add-result

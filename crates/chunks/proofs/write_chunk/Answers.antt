@@ -109,7 +109,7 @@ put_head-at-requires c = omega (arith, room c)
 pub put_body-requires : goal.put_body-requires
 put_body-requires c =
     let r = accepted-ready (bytes-at-2 c) (l-at-2 c) (n-at-2 c) (size-at-2 c) (tested-at-2 c) in
-    (list-within (l-at-2 c) (n-at-2 c) (tested-at-2 c).list, (r, omega (arith, room-at-2 c, c.put_head-at.ensures.1, c.put_head-at.auto.0)))
+    (list-within (l-at-2 c) (n-at-2 c) (tested-at-2 c).list, (r, omega (arith, room-at-2 c, c.put_head-at.ensures.1, c.put_head-at.auto.out)))
 
 pub returns : goal.returns
 returns c =

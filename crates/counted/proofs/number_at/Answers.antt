@@ -4,7 +4,7 @@ use lib.ListN.{get_or}
 use mir.Syntax.{w32}
 use mir.Val.{SFits}
 use mir.Facts.{to_z-of_z}
-use borrow.Author.Rules.{rules, sfits_of}
+use borrow.Author.Rules.{sfits_of}
 use borrow.Author.Tests.{le-leb, lt-leb}
 use Rattle.counted.proofs.number_at.Goals as goal
 
@@ -14,5 +14,5 @@ returns-then-list-i c = simp (le-leb _ _ c.if-list-i.true)
 pub returns : goal.returns
 returns c =
     let a = c.args in
-    let f : SFits w32 (get_or a.t1.items a.i (pos 0)) = sfits_of c.x-1.given in
+    let f : SFits w32 (get_or a.list.items a.i (pos 0)) = sfits_of c.x-1.given in
     simp (to_z-of_z f, lt-leb _ _ c.if-list-i.false)

@@ -1,23 +1,21 @@
 -- `numbers_of` lays the lent numbers over the zeros of an empty list, one a turn (the law Over).
 -- The measure is what is left of them.
 use mathlib.Core.Path.{◌≡◌, ap, ◌∙◌}
-use mathlib.Core.List.{List, ◌++◌}
-use Prim.Native.Nat.{ℕ, ◌≤◌, ◌-◌}
+use mathlib.Core.List.{◌++◌}
 use native.Mathlib.Nat.{le_antisymm}
 use native.Mathlib.Omega.{arith}
-use lib.IntN.{ℤ, pos}
+use lib.IntN.{pos}
 use lib.ListN.{length, get_or, drop}
 use mir.Syntax.{w32}
 use mir.Val.{SFits}
 use mir.Facts.{to_z-of_z}
 use borrow.Author.Rules.{rules, sfits_of}
 use borrow.Author.Tests.{lt-ltb, le-ltb}
-use Rattle.laws.specs.Lists.{over}
 use Rattle.laws.proofs.Over.{over-more, over-all}
 use Rattle.counted.specs.declared.Numbers.{Numbers}
 use Rattle.counted.specs.Numbers.{zeros}
 use Rattle.counted.proofs.Counted.{room}
-use Rattle.counted.proofs.numbers_of.Invariants.{uncounted, laid}
+use Rattle.counted.proofs.numbers_of.Invariants.{uncounted}
 use Rattle.counted.proofs.numbers_of.Goals as goal
 
 pub returns-then-n-gt-LIST_LIMIT : goal.returns-then-n-gt-LIST_LIMIT

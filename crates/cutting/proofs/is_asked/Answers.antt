@@ -2,6 +2,7 @@
 use mathlib.Core.Path.{ap₂}
 use lib.Signed.{le_z}
 use mir.Syntax.{w64}
+use native.Mathlib.Omega.{arith}
 use Rattle.laws.proofs.Fitting.{fit, back}
 use Rattle.laws.proofs.Bits.{flag}
 use Rattle.laws.proofs.Tests.{both}
@@ -12,14 +13,12 @@ use Rattle.cutting.proofs.is_asked.Goals as goal
 pub returns : goal.returns
 unfolding speaks
 returns c =
-    let e = c.struct_told-1.given in
-    let a = c.struct_told-3-1.given in
     let x = c.args.e in
     let y = c.args.a in
     both
     (both
     (both
-    (flag (fit w64 x.kind e.0.1) control-fits)
-    (flag (fit w64 x.channel e.1.1.0.1) (fit w64 y.channel a.0.1)))
-    (flag (fit w64 x.v1 e.1.1.1.0.1) (fit w64 y.number a.1.1.0.1)))
-    (ap₂ le_z (back w64 x.time e.1.0.1) (back w64 y.time a.1.0.1))
+    (flag (fit w64 x.kind (omega arith)) control-fits)
+    (flag (fit w64 x.channel (omega arith)) (fit w64 y.channel (omega arith))))
+    (flag (fit w64 x.v1 (omega arith)) (fit w64 y.number (omega arith))))
+    (ap₂ le_z (back w64 x.time (omega arith)) (back w64 y.time (omega arith)))

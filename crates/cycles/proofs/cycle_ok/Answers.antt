@@ -16,14 +16,13 @@ pub returns : goal.returns
 unfolding ok_cycle
 returns c =
     let x = c.args.c in
-    let g = c.struct_told-2-1.given in
-    let f : SFits w32 x.length = record { sfits = g.1.0.1 } in
+    let f : SFits w32 x.length = search rules in
     both {b = ltb x.index x.values.count}
     (both
     (both
     (both
-    (both (is_at w32 is_target g.0.1 c.is_target.ensures) (ap (le_z (pos 1)) (to_z-of_z f)))
+    (both (is_at w32 is_target (search rules) c.is_target.ensures) (ap (le_z (pos 1)) (to_z-of_z f)))
     (is_at w32 {z = x.length} is_length f.sfits c.is_length.ensures))
-    (is_at w64 {z = x.next} is_stored_time g.1.1.0.1 c.is_stored_time.ensures))
+    (is_at w64 {z = x.next} is_stored_time (search rules) c.is_stored_time.ensures))
     c.numbers_ok.ensures)
     refl

@@ -4,6 +4,7 @@ use mathlib.Core.Bool.{true, false, true≢false}
 use Prim.Native.Nat.{◌<◌}
 use native.Mathlib.Omega.{arith}
 use borrow.Author.Tests.{ltb-true, ltb-false, le-leb, lt-leb}
+use borrow.Author.Rules.{rules}
 use lib.Dec.{T}
 use lib.IntN.{ℤ, pos, negsuc, nat_abs}
 use lib.Signed.{lt_z, non_neg}
@@ -37,24 +38,14 @@ unfolding code_of is_target inside
 above (pos n) p = let h = ltb-false n 130 p in rw (le-leb 0 n (omega arith), lt-leb n 129 (omega arith))
 above (negsuc n) p = absurd (true≢false p)
 
--- from 0 to 127
-module _ (c : goal.In-0-to-127) where
-  number : T (non_neg c.args.target) × (nat_abs c.args.target ≡ key c.args.target) × (nat_abs c.args.target < 128)
-  number = controller c.args.target (lt-back-l (pos 0) c.fits.target c.if-target-lt0-own.false) (lt-back-l (pos 128) c.fits.target c.if-target-lt128-own.true)
-
-pub overflow_cast-result : goal.overflow_cast-result
-overflow_cast-result c = let m = number c in rw (to_z-of_z c.ranges.target) (m.0, omega (arith, m.2))
-
 pub returns-in-0-to-127 : goal.returns-in-0-to-127
-returns-in-0-to-127 c = rw (to_z-of_z c.ranges.target) (number c).1
+returns-in-0-to-127 c = rw (to_z-of_z c.ranges.target) (controller c.args.target (search rules) (search rules)).1
 
 pub returns-in-128 : goal.returns-in-128
-returns-in-128 c =
-    let f = c.ranges.target in
-    bend c.args.target (lt-back-l (pos 128) f c.if-target-lt128-own.false) (lt-back-l (pos 130) f c.if-target-lt130-own.true)
+returns-in-128 c = bend c.args.target (search rules) (search rules)
 
 pub returns-in_default : goal.returns-in_default
-returns-in_default c = below c.args.target (lt-back-l (pos 0) c.ranges.target c.if-target-lt0-own.true)
+returns-in_default c = below c.args.target (search rules)
 
 pub returns-in_default-2 : goal.returns-in_default-2
-returns-in_default-2 c = above c.args.target (lt-back-l (pos 130) c.ranges.target c.if-target-lt130-own.false)
+returns-in_default-2 c = above c.args.target (search rules)

@@ -23,40 +23,40 @@ past = record { target = pos 0; length = pos 0; next = pos 0; index = 0; values 
 
 module _ (c : goal.In-loop-i) where
   few : c.args.used ≤ 16
-  few = within c.args.used c.args.t1 c.requires.0
+  few = within c.args.used c.args.table c.requires.0
 
   less : c.loop-i.i < c.args.used
   less = search rules
 
 module _ (c : goal.After-c-1) where
-  long-at-2 : length c.args.t1 ≡ 16
+  long-at-2 : length c.args.table ≡ 16
   long-at-2 = search rules
 
   less-at-2 : c.loop-i.i < c.args.used
   less-at-2 = search rules
 
-  ok-at-2 : ok_cycle (get_or c.args.t1 c.loop-i.i past) ≡ true
-  ok-at-2 = well c.args.used c.args.t1 c.loop-i.i past c.requires.0 long-at-2 less-at-2
+  ok-at-2 : ok_cycle (get_or c.args.table c.loop-i.i past) ≡ true
+  ok-at-2 = well c.args.used c.args.table c.loop-i.i past c.requires.0 long-at-2 less-at-2
 
 module _ (c : goal.After-due_count-sum) where
-  long-at-3 : length c.args.t1 ≡ 16
+  long-at-3 : length c.args.table ≡ 16
   long-at-3 = search rules
 
   few-at-3 : c.args.used ≤ 16
-  few-at-3 = within c.args.used c.args.t1 c.requires.0
+  few-at-3 = within c.args.used c.args.table c.requires.0
 
   less-at-3 : c.loop-i.i < c.args.used
   less-at-3 = search rules
 
-  ok-at-3 : ok_cycle (get_or c.args.t1 c.loop-i.i past) ≡ true
-  ok-at-3 = well c.args.used c.args.t1 c.loop-i.i past c.requires.0 long-at-3 less-at-3
+  ok-at-3 : ok_cycle (get_or c.args.table c.loop-i.i past) ≡ true
+  ok-at-3 = well c.args.used c.args.table c.loop-i.i past c.requires.0 long-at-3 less-at-3
 
 -- what one record owes, its `until` read back
 module _ (c : goal.After-due_count-sum) where
   bound : c.due_count-sum.result ≤ 2 ^ 42
   bound =
-      let x = get_or c.args.t1 c.loop-i.i past in
-      let e : c.due_count-sum.result ≡ due_count c.args.until x = rw (to_z-of_z c.fits.until) at c.due_count-sum.ensures in
+      let x = get_or c.args.table c.loop-i.i past in
+      let e : c.due_count-sum.result ≡ due_count c.args.until x = rw (to_z-of_z c.ranges.until) at c.due_count-sum.ensures in
       omega (arith, e, few-due x (ok-at-3 c) c.args.until c.requires.1)
 
 pub loop-i-init : goal.loop-i-init
@@ -70,10 +70,10 @@ pub bounds-table-i : goal.bounds-table-i
 bounds-table-i c = omega (arith, less c, few c)
 
 pub due_count-sum-requires : goal.due_count-sum-requires
-due_count-sum-requires c = (ok-at-2 c, rw (to_z-of_z c.fits.until) c.requires.1)
+due_count-sum-requires c = (ok-at-2 c, rw (to_z-of_z c.ranges.until) c.requires.1)
 
 pub overflow_add-sum : goal.overflow_add-sum
-overflow_add-sum c = omega (arith, bound c, c.loop-i.inv.2, less-at-3 c, few-at-3 c)
+overflow_add-sum c = omega (arith, bound c, c.loop-i.invariant.2, less-at-3 c, few-at-3 c)
 
 pub overflow_add-i : goal.overflow_add-i
 overflow_add-i c = omega (arith, less-at-3 c, few-at-3 c)
@@ -86,8 +86,8 @@ loop-i-preserved c =
     let v = c.loop-i in
     let a = c.args in (
       omega (arith, less-at-3 c),
-      omega (arith, v.inv.1, c.due_count-sum.ensures, owed_more (to_z w64 (of_z w64 a.until)) a.t1 v.i past (omega (arith, less-at-3 c, few-at-3 c, long-at-3 c))),
-      omega (arith, bound c, v.inv.2),
+      omega (arith, v.invariant.1, c.due_count-sum.ensures, owed_more (to_z w64 (of_z w64 a.until)) a.table v.i past (omega (arith, less-at-3 c, few-at-3 c, long-at-3 c))),
+      omega (arith, bound c, v.invariant.2),
     )
 
 pub returns : goal.returns

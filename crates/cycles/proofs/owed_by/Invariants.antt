@@ -18,7 +18,7 @@ use Rattle.cycles.proofs.Placing.{owed_more, well, within}
 use Rattle.cycles.proofs.owed_by.Given as goal
 
 abbrev pub invariant-loop-i : goal.invariant-loop-i
-invariant-loop-i l = (l.i ≤ l.used) × (l.sum ≡ owed (to_z w64 l.until) (take l.i l.table)) × (l.sum ≤ l.i * 2 ^ 42)
+invariant-loop-i l = (l.i ≤ l.used) × (l.sum ≡ owed (l.until) (take l.i l.table)) × (l.sum ≤ l.i * 2 ^ 42)
 
 abbrev pub decreases-loop-i : goal.decreases-loop-i
 decreases-loop-i l = l.used - l.i

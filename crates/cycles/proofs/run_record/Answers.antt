@@ -15,34 +15,34 @@ use Rattle.cycles.proofs.run_record.Goals as goal
 -- the code's test of the next time, read back
 module _ (c : goal.Then-ask-cycle) where
   fits-until : SFits w64 c.args.ask.until
-  fits-until = record { sfits = c.struct_told-1.given.0.1 }
+  fits-until = search rules
 
   fits-at : SFits w64 c.loop-k.cycle.next
-  fits-at = fits_next c.loop-k.cycle (sound c.loop-k.cycle c.loop-k.inv.0.ok)
+  fits-at = fits_next c.loop-k.cycle (sound c.loop-k.cycle c.loop-k.invariant.0.ok)
 
 -- the code's test of the next time, read back
 module _ (c : goal.After-append-arg-then-s-1) where
   fits-until-at-2 : SFits w64 c.args.ask.until
-  fits-until-at-2 = record { sfits = c.struct_told-1.given.0.1 }
+  fits-until-at-2 = search rules
 
   fits-at-at-2 : SFits w64 c.loop-k.cycle.next
-  fits-at-at-2 = fits_next c.loop-k.cycle (sound c.loop-k.cycle c.loop-k.inv.0.ok)
+  fits-at-at-2 = fits_next c.loop-k.cycle (sound c.loop-k.cycle c.loop-k.invariant.0.ok)
 
 -- the code's test of the next time, read back
 module _ (c : goal.After-events-1) where
   fits-until-at-3 : SFits w64 c.args.ask.until
-  fits-until-at-3 = record { sfits = c.struct_told-1.given.0.1 }
+  fits-until-at-3 = search rules
 
   fits-at-at-3 : SFits w64 c.loop-k.cycle.next
-  fits-at-at-3 = fits_next c.loop-k.cycle (sound c.loop-k.cycle c.loop-k.inv.0.ok)
+  fits-at-at-3 = fits_next c.loop-k.cycle (sound c.loop-k.cycle c.loop-k.invariant.0.ok)
 
 -- the code's test of the next time, read back
 module _ (c : goal.Else-s) where
   fits-until-at-4 : SFits w64 c.args.ask.until
-  fits-until-at-4 = record { sfits = c.struct_told-1.given.0.1 }
+  fits-until-at-4 = search rules
 
   fits-at-at-4 : SFits w64 c.loop-k.cycle.next
-  fits-at-at-4 = fits_next c.loop-k.cycle (sound c.loop-k.cycle c.loop-k.inv.0.ok)
+  fits-at-at-4 = fits_next c.loop-k.cycle (sound c.loop-k.cycle c.loop-k.invariant.0.ok)
 
 pub loop-k-init : goal.loop-k-init
 loop-k-init c =
@@ -56,7 +56,7 @@ pub returns-then-ask-cycle : goal.returns-then-ask-cycle
 returns-then-ask-cycle c =
     let a = c.args in
     R.idle a.ask a.c a.b (rows_of a.events.now) a.count a.most c.loop-k.cycle c.loop-k.budget (rows_of c.loop-k.events) c.loop-k.n c.loop-k.k
-    c.loop-k.inv.0 (lt_back (fits-until c) (fits-at c) c.if-ask-cycle.true)
+    c.loop-k.invariant.0 (lt_back (fits-until c) (fits-at c) c.if-ask-cycle.true)
 
 pub step-s-requires : goal.step-s-requires
 step-s-requires c = c.loop-k.invariant.0.ok
@@ -67,7 +67,7 @@ append-n-requires c =
     let t = lt_back (fits-until-at-2 c) (fits-at-at-2 c) c.if-ask-cycle.false in
     let s = c.step-s.ensures in
     R.room a.ask a.c a.b (rows_of a.events.now) a.count a.most c.loop-k.cycle c.loop-k.budget (rows_of c.loop-k.events) c.loop-k.n c.loop-k.k
-    c.loop-k.inv.0 (search rules) t (rw s c.if-s.true) c.requires.2 c.requires.3
+    c.loop-k.invariant.0 (search rules) t (rw (← s) c.if-s.true) c.requires.2 c.requires.3
 
 pub loop-k-preserved-then-s : goal.loop-k-preserved-then-s
 loop-k-preserved-then-s c =
@@ -77,8 +77,8 @@ loop-k-preserved-then-s c =
     let p = c.append-n.ensures in (
       rw (p.0, s)
           (R.put a.ask a.c a.b (rows_of a.events.now) a.count a.most c.loop-k.cycle c.loop-k.budget (rows_of c.loop-k.events) c.loop-k.n c.loop-k.k
-          c.loop-k.inv.0 (search rules) t c.requires.1 (rw s c.if-s.true) (rows_of c.append-n.new.0) (rw s at p.1)),
-      c.append-n.auto.0 ∙ c.loop-k.inv.1,
+          c.loop-k.invariant.0 (search rules) t c.requires.1 (rw (← s) c.if-s.true) (rows_of c.append-n.new.events) (rw s at p.1)),
+      c.append-n.auto.events ∙ c.loop-k.invariant.1,
     )
 
 pub loop-k-preserved : goal.loop-k-preserved
@@ -88,8 +88,8 @@ loop-k-preserved c =
     let s = c.step-s.ensures in (
       rw s
           (R.skip a.ask a.c a.b (rows_of a.events.now) a.count a.most c.loop-k.cycle c.loop-k.budget (rows_of c.loop-k.events) c.loop-k.n c.loop-k.k
-          c.loop-k.inv.0 (search rules) t c.requires.1 (rw s c.if-s.false)),
-      c.loop-k.inv.1,
+          c.loop-k.invariant.0 (search rules) t c.requires.1 (rw (← s) c.if-s.false)),
+      c.loop-k.invariant.1,
     )
 
 pub shape_of-events : goal.shape_of-events

@@ -50,7 +50,7 @@ module _ (c : goal.After-run_record-arg-1) where
   same-at-2 =
       let a = c.args in
       P.at_place a.round a.used a.table a.b (rows_of a.events.now) a.count c.loop-i.cycles c.loop-i.budget (rows_of c.loop-i.events) c.loop-i.n c.loop-i.left c.loop-i.i
-      c.loop-i.inv.0 less-at-2 fit-at-2 past
+      c.loop-i.invariant.0 less-at-2 fit-at-2 past
 
   well-at-2 : ok_cycle (get_or c.args.table c.loop-i.i past) ≡ true
   well-at-2 = P.well c.args.used c.args.table c.loop-i.i past c.requires.0 long-at-2 less-at-2
@@ -92,7 +92,7 @@ module _ (c : goal.After-struct_known-1) where
   same-at-4 =
       let a = c.args in
       P.at_place a.round a.used a.table a.b (rows_of a.events.now) a.count c.loop-i.cycles c.loop-i.budget (rows_of c.loop-i.events) c.loop-i.n c.loop-i.left c.loop-i.i
-      c.loop-i.inv.0 less-at-4 fit-at-4 past
+      c.loop-i.invariant.0 less-at-4 fit-at-4 past
 
   well-at-4 : ok_cycle (get_or c.args.table c.loop-i.i past) ≡ true
   well-at-4 = P.well c.args.used c.args.table c.loop-i.i past c.requires.0 long-at-4 less-at-4
@@ -119,7 +119,7 @@ pub run_record-r-requires : goal.run_record-r-requires
 run_record-r-requires c =
     let a = c.args in
     let v = c.loop-i in
-    P.ready a.round a.used a.table a.b (rows_of a.events.now) a.count v.cycles v.budget (rows_of v.events) v.n v.left v.i v.inv.0 (less-at-2 c) (fit-at-2 c) past
+    P.ready a.round a.used a.table a.b (rows_of a.events.now) a.count v.cycles v.budget (rows_of v.events) v.n v.left v.i v.invariant.0 (less-at-2 c) (fit-at-2 c) past
     (get_or v.cycles v.i past) c.ask_for-ask.result (same-at-2 c) (asked-at-2 c c.ask_for-ask.result c.ask_for-ask.ensures) (well-at-2 c) c.requires.1 c.requires.2 (enough-at-2 c)
 
 pub offset_bounds-cycles-i-in-loop-i : goal.offset_bounds-cycles-i-in-loop-i
@@ -142,9 +142,9 @@ loop-i-preserved c =
     let v = c.loop-i in
     let e = c.ask_for-ask in
     let p = c.run_record-r.ensures in (
-      P.step a.round a.used a.table a.b (rows_of a.events.now) a.count v.cycles v.budget (rows_of v.events) v.n v.left v.i v.inv.0 (less-at-4 c) (fit-at-4 c) past
-          (get_or v.cycles v.i past) e.result (same-at-4 c) (asked-at-4 c e.result e.ensures) c.run_record-r.result (rows_of c.run_record-r.new.1.1.1.1.0) p.0 p.1,
-      c.run_record-r.auto.1.1.1.1.0 ∙ v.inv.1,
+      P.step a.round a.used a.table a.b (rows_of a.events.now) a.count v.cycles v.budget (rows_of v.events) v.n v.left v.i v.invariant.0 (less-at-4 c) (fit-at-4 c) past
+          (get_or v.cycles v.i past) e.result (same-at-4 c) (asked-at-4 c e.result e.ensures) c.run_record-r.result (rows_of c.run_record-r.new.events) p.0 p.1,
+      c.run_record-r.auto.events ∙ v.invariant.1,
     )
 
 pub shape_of-events : goal.shape_of-events

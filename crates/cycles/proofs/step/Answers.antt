@@ -42,8 +42,8 @@ module _ (c : goal.Then-wrote) where
   wrote =
       let x = c.args.c in
       let s = sound x c.requires in
-      let f : SFits w32 c.args.ask.channel = record { sfits = c.struct_told-2-1.given.1.0.1 } in
-      let e = c.value_of_lem.ensures in
+      let f : SFits w32 c.args.ask.channel = search rules in
+      let e = c.value_of.ensures in
       rw (to_z-of_z (fits-target x s), to_z-of_z f, to_z-of_z (fits_next x s), value-back c.widened-value.ensures.0 e.0 e.1) at c.one_value-wrote.ensures
 
 -- what the write gives, its numbers read back
@@ -53,14 +53,14 @@ module _ (c : goal.Else-wrote) where
   wrote-at-2 =
       let x = c.args.c in
       let s = sound x c.requires in
-      let f : SFits w32 c.args.ask.channel = record { sfits = c.struct_told-2-1.given.1.0.1 } in
-      let e = c.value_of_lem.ensures in
+      let f : SFits w32 c.args.ask.channel = search rules in
+      let e = c.value_of.ensures in
       rw (to_z-of_z (fits-target x s), to_z-of_z f, to_z-of_z (fits_next x s), value-back c.widened-value.ensures.0 e.0 e.1) at c.one_value-wrote.ensures
 
 pub one_value-wrote-requires : goal.one_value-wrote-requires
 one_value-wrote-requires c =
     let s = sound c.args.c c.requires in
-    let e = c.value_of_lem.ensures in
+    let e = c.value_of.ensures in
     rw (to_z-of_z (fits_next c.args.c s), value-back c.widened-value.ensures.0 e.0 e.1)
     (record { time = omega arith; some = omega arith; slow = omega arith }, record { step = omega arith; value = small e.0 e.1 })
 

@@ -2,6 +2,7 @@
 use mathlib.Core.Path.{refl}
 use Prim.Native.Nat.{◌≤◌, ◌^◌}
 use native.Mathlib.Omega.{arith}
+use borrow.Author.Rules.{rules}
 use lib.IntN.{pos}
 use lib.ListN.{get_or}
 use lib.Signed.{mag}
@@ -26,6 +27,6 @@ unfolding write_of is_number
 returns c =
     let x = c.args.c in
     let s = sound x c.requires in
-    let f : SFits w32 (get_or x.values.items x.index (pos 0)) = record { sfits = c.result-1.given } in
+    let f : SFits w32 (get_or x.values.items x.index (pos 0)) = search rules in
     let b : mag (get_or x.values.items x.index (pos 0)) ≤ 2 ^ 22 = sized-mag (2 ^ 22) _ (numbers-at x.values x.index s.numbers s.placed) in
     rw (to_z-of_z f) (refl, b)

@@ -130,6 +130,6 @@ returns c =
     let a = c.args in
     let q = rw (to_z-of_z c.ranges.until, to_z-of_z (on-channel-at-2 c)) at c.run_table-r.ensures in (
       ap as_cycled q.0 ∙ unfold called_of in sym (answer a.track a.size a.cycles a.until a.budget (l-at-3 c) a.count (zero-at-2 c)),
-      determined (l-at-3 c) c.run_table-r.new.1.1.1.1.0 _ (list-whole (l-at-3 c) a.count (list-ok-at-2 c)) c.run_table-r.auto.1.1.1.1.0 q.1
+      determined (l-at-3 c) c.run_table-r.new.events _ (list-whole (l-at-3 c) a.count (list-ok-at-2 c)) c.run_table-r.auto.events q.1
           ∙ sym (list_left_lem a.track a.size a.cycles a.until a.budget (l-at-3 c) a.count (zero-at-2 c)),
     )

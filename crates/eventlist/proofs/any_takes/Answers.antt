@@ -1,11 +1,8 @@
 -- `any_takes` meets its contract: none of the windows passed takes the event, so that those left decide (laws of Tests).
-use borrow.Author.Rules.{rules}
 use mathlib.Core.Bool.{Bool, not}
 use mathlib.Core.Path.{◌≡◌, refl, sym, ap, ◌∙◌}
-use Prim.Native.Nat.{◌-◌, ◌≤◌}
 use native.Mathlib.Omega.{arith}
-use lib.ListN.{get_or}
-use Rattle.laws.proofs.Tests.{Left, passed, failed, ended, any-all}
+use Rattle.laws.proofs.Tests.{passed, failed, ended, any-all}
 use Rattle.eventlist.specs.declared.Window.{Window}
 use Rattle.events.specs.declared.Event.{Event}
 use Rattle.eventlist.specs.Windows.{taken_by, windows_of, no_window}
@@ -13,12 +10,9 @@ use Rattle.eventlist.proofs.WindowRows.{length-windows_of}
 use Rattle.eventlist.proofs.any_takes.Invariants.{leaves}
 use Rattle.eventlist.proofs.any_takes.Goals as goal
 
--- what the test of window j says of it
-asked : (c : tie.After-in-window invariant-loop decreases-loop) (t : Bool) → c.in_window.result ≡ t
-    → leaves c.before.before.before.before.args.e (get_or (windows_of c.before.before.before.before.args.windows.now) c.before.before.before.loop.j no_window) ≡ not t
-asked c t e =
-    let s = c.before.before.before.before in
-    ap (leaves s.args.e) (sym c.before.window-at.ensures) ∙ ap not (sym c.in_window.ensures ∙ e)
+-- what the test r of a window w says of it
+asked : (e : Event) {w v : Window} {r : Bool} (t : Bool) → w ≡ v → r ≡ taken_by w e → r ≡ t → leaves e v ≡ not t
+asked e t p q h = ap (leaves e) (sym p) ∙ ap not (sym q ∙ h)
 
 pub loop-j-init : goal.loop-j-init
 loop-j-init c = (omega arith, refl)
@@ -30,7 +24,7 @@ pub returns-then-in_window : goal.returns-then-in_window
 returns-then-in_window c =
     let ws = windows_of c.args.windows.now in
     let n = length-windows_of c.args.windows.now in
-    ap not (failed (leaves c.args.e) ws c.loop-j.j no_window (omega arith) (asked c _ c.if-in_window.true) c.loop-j.invariant.1)
+    ap not (failed (leaves c.args.e) ws c.loop-j.j no_window (omega arith) (asked c.args.e _ c.window_at.ensures c.in_window.ensures c.if-in_window.true) c.loop-j.invariant.1)
     ∙ any-all (λ w. taken_by w c.args.e) ws
 
 pub overflow_add-j : goal.overflow_add-j
@@ -43,7 +37,7 @@ pub loop-j-preserved : goal.loop-j-preserved
 loop-j-preserved c =
     let n = length-windows_of c.args.windows.now in (
       omega arith,
-      passed (leaves c.args.e) (windows_of c.args.windows.now) c.loop-j.j no_window (omega arith) (asked c _ c.if-in_window.false) c.loop-j.invariant.1,
+      passed (leaves c.args.e) (windows_of c.args.windows.now) c.loop-j.j no_window (omega arith) (asked c.args.e _ c.window_at.ensures c.in_window.ensures c.if-in_window.false) c.loop-j.invariant.1,
     )
 
 pub returns : goal.returns

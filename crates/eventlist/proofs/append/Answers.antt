@@ -1,5 +1,4 @@
 -- `append` meets its contract: a record written after the first `count` is one more put first (`put-more`).
-use borrow.Author.Rules.{rules}
 use mathlib.Core.Path.{refl, ◌∙◌}
 use native.Mathlib.Omega.{arith}
 use Rattle.laws.proofs.Compact.{put-more}

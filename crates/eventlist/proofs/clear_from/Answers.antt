@@ -1,12 +1,10 @@
 -- `clear_from` meets its contract: records `from` to k are cleared (`Clearing`), and one more at each turn.
-use borrow.Author.Rules.{rules}
 use mathlib.Core.Path.{◌≡◌, ap, ◌∙◌}
-use Prim.Native.Nat.{◌-◌}
 use native.Mathlib.Omega.{arith}
 use lib.ListN.{length, set, take}
 use lib.Seq.{length-take-le}
 use Rattle.laws.proofs.Compact.{cleared, cleared-put}
-use Rattle.laws.proofs.Taking.{Clearing, clear_none, clear-more}
+use Rattle.laws.proofs.Taking.{clear_none, clear-more}
 use Rattle.events.specs.declared.Event.{Event}
 use Rattle.events.specs.Events.{zero_event}
 use Rattle.eventlist.specs.Rows.{rows_of}
@@ -31,8 +29,8 @@ loop-k-smaller c = omega arith
 
 pub loop-k-preserved : goal.loop-k-preserved
 loop-k-preserved c =
-    clear-more rows_of zero_event c.args.events.now c.loop-k.events c.write_event.new.0 c.args.to c.args.from c.loop-k.k c.loop-k.invariant (omega arith) c.requires.1
-    c.write_event.auto.0
+    clear-more rows_of zero_event c.args.events.now c.loop-k.events c.write_event.new.events c.args.to c.args.from c.loop-k.k c.loop-k.invariant (omega arith) c.requires.1
+    c.write_event.auto.events
     (c.write_event.ensures ∙ ap (λ (e : Event). set (rows_of c.loop-k.events) c.loop-k.k e) c.zero_event.ensures)
 
 pub shape_of-events : goal.shape_of-events

@@ -1,7 +1,6 @@
 -- `clear_windows` meets its contract: of the first i the n that are kept stand in front (`Compacting`), those behind the first taken one
 -- moved there; the loop begins behind that one (`begun`) and, while one is left to be taken (`some-ahead`), moves the stretch before it
 -- (`step-stretch`); what is left then moves as a stretch too (`stretched`); what is cleared at the end makes it whole (`closed`).
-use borrow.Author.Rules.{rules}
 use mathlib.Core.Bool.{Bool}
 use mathlib.Core.List.{List}
 use mathlib.Core.Path.{◌≡◌, refl, sym, ap, ◌∙◌, subst}
@@ -39,7 +38,7 @@ module _ (c : goal.In-loop-i) where
   count = c.args.count
 
   abbrev so_far : Compacting rows_of zero_event out l₀ c.loop-i.events count c.loop-i.i c.loop-i.n
-  so_far = c.loop-i.inv.0
+  so_far = c.loop-i.invariant.0
 
   within : c.loop-i.i ≤ count
   within = so_far.within
@@ -59,7 +58,7 @@ module _ (c : goal.After-move_down-arg-1) where
   count-at-2 = c.args.count
 
   abbrev so_far-at-2 : Compacting rows_of zero_event out-at-2 l₀-at-2 c.loop-i.events count-at-2 c.loop-i.i c.loop-i.n
-  so_far-at-2 = c.loop-i.inv.0
+  so_far-at-2 = c.loop-i.invariant.0
 
   rows_at-at-2 : length (rows_of c.loop-i.events) ≡ length (rows_of l₀-at-2)
   rows_at-at-2 = same_rows c.loop-i.events l₀-at-2 so_far-at-2.long
@@ -75,7 +74,7 @@ module _ (c : goal.After-events-1) where
   count-at-3 = c.args.count
 
   abbrev so_far-at-3 : Compacting rows_of zero_event out-at-3 l₀-at-3 c.loop-i.events count-at-3 c.loop-i.i c.loop-i.n
-  so_far-at-3 = c.loop-i.inv.0
+  so_far-at-3 = c.loop-i.invariant.0
 
 module _ (c : goal.After-move_down-arg-2-1) where
   abbrev out-at-4 : Event → Bool
@@ -88,7 +87,7 @@ module _ (c : goal.After-move_down-arg-2-1) where
   count-at-4 = c.args.count
 
   abbrev so_far-at-4 : Compacting rows_of zero_event out-at-4 l₀-at-4 c.loop-i.events count-at-4 c.loop-i.i c.loop-i.n
-  so_far-at-4 = c.loop-i.inv.0
+  so_far-at-4 = c.loop-i.invariant.0
 
   within-at-4 : c.loop-i.i ≤ count-at-4
   within-at-4 = so_far-at-4.within
@@ -108,7 +107,7 @@ module _ (c : goal.After-events-2-1) where
   count-at-5 = c.args.count
 
   abbrev so_far-at-5 : Compacting rows_of zero_event out-at-5 l₀-at-5 c.loop-i.events count-at-5 c.loop-i.i c.loop-i.n
-  so_far-at-5 = c.loop-i.inv.0
+  so_far-at-5 = c.loop-i.invariant.0
 
   within-at-5 : c.loop-i.i ≤ count-at-5
   within-at-5 = so_far-at-5.within
@@ -125,7 +124,7 @@ module _ (c : goal.After-clear_from-arg-1) where
   count-at-6 = c.args.count
 
   abbrev so_far-at-6 : Compacting rows_of zero_event out-at-6 l₀-at-6 c.loop-i.events count-at-6 c.loop-i.i c.loop-i.n
-  so_far-at-6 = c.loop-i.inv.0
+  so_far-at-6 = c.loop-i.invariant.0
 
 module _ (c : goal.After-events-3-1) where
   abbrev out-at-7 : Event → Bool
@@ -138,7 +137,7 @@ module _ (c : goal.After-events-3-1) where
   count-at-7 = c.args.count
 
   abbrev so_far-at-7 : Compacting rows_of zero_event out-at-7 l₀-at-7 c.loop-i.events count-at-7 c.loop-i.i c.loop-i.n
-  so_far-at-7 = c.loop-i.inv.0
+  so_far-at-7 = c.loop-i.invariant.0
 
 -- the next that is taken
 module _ (c : goal.After-move_down-arg-1) where
@@ -151,7 +150,7 @@ module _ (c : goal.After-move_down-arg-1) where
   ahead : c.loop-i.i + many < count-at-2 c
   ahead =
       some-ahead rows_of zero_event (out-at-2 c) (l₀-at-2 c) c.loop-i.events (count-at-2 c) c.loop-i.i c.loop-i.n (so_far-at-2 c) c.requires.0 c.args.seen.taken c.requires.1.taken
-      c.loop-i-test.taken
+      c.loop-i-test.true
 
 -- the next that is taken
 module _ (c : goal.After-events-1) where
@@ -167,7 +166,7 @@ module _ (c : goal.After-events-1) where
   ahead-at-2 : c.loop-i.i + many-at-2 < count-at-3 c
   ahead-at-2 =
       some-ahead rows_of zero_event (out-at-3 c) (l₀-at-3 c) c.loop-i.events (count-at-3 c) c.loop-i.i c.loop-i.n (so_far-at-3 c) c.requires.0 c.args.seen.taken c.requires.1.taken
-      c.loop-i-test.taken
+      c.loop-i-test.true
 
 -- the next that is taken
 module _ (c : goal.In-loop-i) where
@@ -189,36 +188,36 @@ module _ (c : goal.After-events-2-1) where
   abbrev all : ℕ
   all = c.loop-i.n + (count-at-5 c - c.loop-i.i)
 
-  compacted : Compacting rows_of zero_event (out-at-5 c) (l₀-at-5 c) c.move_down-moved-2.last.0 (count-at-5 c) (count-at-5 c) all
+  compacted : Compacting rows_of zero_event (out-at-5 c) (l₀-at-5 c) c.move_down-moved-2.new.events (count-at-5 c) (count-at-5 c) all
   compacted =
       stretched rows_of zero_event (out-at-5 c) (l₀-at-5 c) c.loop-i.events (count-at-5 c) c.loop-i.i c.loop-i.n (so_far-at-5 c) c.requires.0 c.args.seen.taken c.requires.1.taken
-      (let e = c.loop-i-test.left in omega arith) c.move_down-moved-2.last.0 c.move_down-moved-2.kept.0 c.move_down-moved-2.ensures.1
+      (let e = c.loop-i-test.false in omega arith) c.move_down-moved-2.new.events c.move_down-moved-2.auto.events c.move_down-moved-2.ensures.1
 
   all-le : all ≤ count-at-5 c
-  all-le = n-le rows_of zero_event (out-at-5 c) (l₀-at-5 c) c.move_down-moved-2.last.0 (count-at-5 c) (count-at-5 c) all compacted c.requires.0
+  all-le = n-le rows_of zero_event (out-at-5 c) (l₀-at-5 c) c.move_down-moved-2.new.events (count-at-5 c) (count-at-5 c) all compacted c.requires.0
 
 -- the rest has moved down
 module _ (c : goal.After-clear_from-arg-1) where
   abbrev all-at-2 : ℕ
   all-at-2 = c.loop-i.n + (count-at-6 c - c.loop-i.i)
 
-  compacted-at-2 : Compacting rows_of zero_event (out-at-6 c) (l₀-at-6 c) c.move_down-moved-2.last.0 (count-at-6 c) (count-at-6 c) all-at-2
+  compacted-at-2 : Compacting rows_of zero_event (out-at-6 c) (l₀-at-6 c) c.move_down-moved-2.new.events (count-at-6 c) (count-at-6 c) all-at-2
   compacted-at-2 =
       stretched rows_of zero_event (out-at-6 c) (l₀-at-6 c) c.loop-i.events (count-at-6 c) c.loop-i.i c.loop-i.n (so_far-at-6 c) c.requires.0 c.args.seen.taken c.requires.1.taken
-      (let e = c.loop-i-test.left in omega arith) c.move_down-moved-2.last.0 c.move_down-moved-2.kept.0 c.move_down-moved-2.ensures.1
+      (let e = c.loop-i-test.false in omega arith) c.move_down-moved-2.new.events c.move_down-moved-2.auto.events c.move_down-moved-2.ensures.1
 
   all-le-at-2 : all-at-2 ≤ count-at-6 c
-  all-le-at-2 = n-le rows_of zero_event (out-at-6 c) (l₀-at-6 c) c.move_down-moved-2.last.0 (count-at-6 c) (count-at-6 c) all-at-2 compacted-at-2 c.requires.0
+  all-le-at-2 = n-le rows_of zero_event (out-at-6 c) (l₀-at-6 c) c.move_down-moved-2.new.events (count-at-6 c) (count-at-6 c) all-at-2 compacted-at-2 c.requires.0
 
 -- the rest has moved down
 module _ (c : goal.After-events-3-1) where
   abbrev all-at-3 : ℕ
   all-at-3 = c.loop-i.n + (count-at-7 c - c.loop-i.i)
 
-  compacted-at-3 : Compacting rows_of zero_event (out-at-7 c) (l₀-at-7 c) c.move_down-moved-2.last.0 (count-at-7 c) (count-at-7 c) all-at-3
+  compacted-at-3 : Compacting rows_of zero_event (out-at-7 c) (l₀-at-7 c) c.move_down-moved-2.new.events (count-at-7 c) (count-at-7 c) all-at-3
   compacted-at-3 =
       stretched rows_of zero_event (out-at-7 c) (l₀-at-7 c) c.loop-i.events (count-at-7 c) c.loop-i.i c.loop-i.n (so_far-at-7 c) c.requires.0 c.args.seen.taken c.requires.1.taken
-      (let e = c.loop-i-test.left in omega arith) c.move_down-moved-2.last.0 c.move_down-moved-2.kept.0 c.move_down-moved-2.ensures.1
+      (let e = c.loop-i-test.false in omega arith) c.move_down-moved-2.new.events c.move_down-moved-2.auto.events c.move_down-moved-2.ensures.1
 
 pub returns-then-first-count : goal.returns-then-first-count
 returns-then-first-count c =
@@ -240,7 +239,7 @@ overflow_sub-i c = omega (arith, c.loop-i.invariant.1)
 pub next_taken-next-requires : goal.next_taken-next-requires
 next_taken-next-requires c =
     let r = rows_at c in
-    (within c, omega (arith, c.requires.0), c.Span-of.ensures)
+    (within c, omega (arith, c.requires.0), c.span_of-span.ensures)
 
 pub overflow_sub-next : goal.overflow_sub-next
 overflow_sub-next c = omega (arith, next-is c)
@@ -248,7 +247,7 @@ overflow_sub-next c = omega (arith, next-is c)
 pub move_down-moved-requires : goal.move_down-moved-requires
 move_down-moved-requires c =
     let r = rows_at-at-2 c in
-    (c.loop-i.inv.1, omega (arith, next-is c, ahead c, c.requires.0))
+    (c.loop-i.invariant.1, omega (arith, next-is c, ahead c, c.requires.0))
 
 pub overflow_add-moved : goal.overflow_add-moved
 overflow_add-moved c =
@@ -269,13 +268,13 @@ loop-i-smaller c = omega (arith, next-is-at-2 c, ahead-at-2 c)
 pub loop-i-preserved : goal.loop-i-preserved
 loop-i-preserved c =
     let R = rows_of c.loop-i.events in
-    let Then : ℕ → ℕ → Type 0 = λ (i n : ℕ). Compacting rows_of zero_event (out-at-3 c) (l₀-at-3 c) c.move_down-moved.new.0 (count-at-3 c) (i + 1) (c.loop-i.n + n) in
+    let Then : ℕ → ℕ → Type 0 = λ (i n : ℕ). Compacting rows_of zero_event (out-at-3 c) (l₀-at-3 c) c.move_down-moved.new.events (count-at-3 c) (i + 1) (c.loop-i.n + n) in
     let got : Then (c.loop-i.i + many-at-2 c) (many-at-2 c) =
-    step-stretch rows_of zero_event (out-at-3 c) (l₀-at-3 c) c.loop-i.events (count-at-3 c) c.loop-i.i c.loop-i.n (so_far-at-3 c) c.requires.0 (many-at-2 c) refl (ahead-at-2 c) c.move_down-moved.new.0 c.move_down-moved.auto.0
+    step-stretch rows_of zero_event (out-at-3 c) (l₀-at-3 c) c.loop-i.events (count-at-3 c) c.loop-i.i c.loop-i.n (so_far-at-3 c) c.requires.0 (many-at-2 c) refl (ahead-at-2 c) c.move_down-moved.new.events c.move_down-moved.auto.events
     (c.move_down-moved.ensures.1 ∙ ap (paste R c.loop-i.n (drop c.loop-i.i R)) (between-at-2 c)) in (
       subst (λ (x : ℕ). Then x (c.next_taken-next.result - c.loop-i.i)) (sym (next-is-at-2 c)) (subst (Then (c.loop-i.i + many-at-2 c)) (sym (between-at-2 c)) got),
-      omega (arith, c.loop-i.inv.1, next-is-at-2 c),
-      omega (arith, c.loop-i.inv.2, c.move_down-moved.ensures.0),
+      omega (arith, c.loop-i.invariant.1, next-is-at-2 c),
+      omega (arith, c.loop-i.invariant.2, c.move_down-moved.ensures.0),
     )
 
 pub overflow_sub-count : goal.overflow_sub-count
@@ -289,7 +288,7 @@ move_down-moved-requires-2 c =
 
 pub overflow_add-moved-2 : goal.overflow_add-moved-2
 overflow_add-moved-2 c =
-    omega (arith, within-at-5 c, c.loop-i.inv.1, c.loop-i.inv.2, c.move_down-moved-2.ensures.0)
+    omega (arith, within-at-5 c, c.loop-i.invariant.1, c.loop-i.invariant.2, c.move_down-moved-2.ensures.0)
 
 pub overflow_sub-n-2 : goal.overflow_sub-n-2
 overflow_sub-n-2 c = within-at-5 c
@@ -299,15 +298,15 @@ overflow_add-n-2 c = omega (arith, all-le c)
 
 pub clear_from-requires : goal.clear_from-requires
 clear_from-requires c =
-    let r = same_rows c.move_down-moved-2.new.0 (l₀-at-6 c) (compacted-at-2 c).long in
+    let r = same_rows c.move_down-moved-2.new.events (l₀-at-6 c) (compacted-at-2 c).long in
     (all-le-at-2 c, omega (arith, c.requires.0))
 
 pub shape_of-events : goal.shape_of-events
-shape_of-events c = c.clear_from.auto.0 ∙ (compacted-at-3 c).long
+shape_of-events c = c.clear_from.auto.events ∙ (compacted-at-3 c).long
 
 pub returns : goal.returns
 returns c = (
   counted-moves (windows_of c.args.windows.now) c.args.events.now c.args.count c.requires.0 c.args.seen c.requires.1 (all-at-3 c) _ (compacted-at-3 c).counted
-      (omega (arith, c.loop-i.inv.2, c.move_down-moved-2.ensures.0)),
-  closed rows_of zero_event (out-at-7 c) (l₀-at-7 c) c.move_down-moved-2.new.0 (count-at-7 c) (count-at-7 c) (all-at-3 c) (compacted-at-3 c) c.requires.0 (omega arith) c.clear_from.new.0 c.clear_from.ensures,
+      (omega (arith, c.loop-i.invariant.2, c.move_down-moved-2.ensures.0)),
+  closed rows_of zero_event (out-at-7 c) (l₀-at-7 c) c.move_down-moved-2.new.events (count-at-7 c) (count-at-7 c) (all-at-3 c) (compacted-at-3 c) c.requires.0 (omega arith) c.clear_from.new.events c.clear_from.ensures,
 )

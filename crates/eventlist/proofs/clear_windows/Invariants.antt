@@ -1,23 +1,12 @@
 -- `clear_windows` meets its contract: of the first i the n that are kept stand in front (`Compacting`), those behind the first taken one
 -- moved there; the loop begins behind that one (`begun`) and, while one is left to be taken (`some-ahead`), moves the stretch before it
 -- (`step-stretch`); what is left then moves as a stretch too (`stretched`); what is cleared at the end makes it whole (`closed`).
-use borrow.Author.Rules.{rules}
-use mathlib.Core.Bool.{Bool}
-use mathlib.Core.List.{List}
-use mathlib.Core.Path.{◌≡◌, refl, sym, ap, ◌∙◌, subst}
-use Prim.Native.Nat.{ℕ, ◌+◌, ◌-◌, ◌≤◌, ◌<◌}
-use native.Mathlib.Omega.{arith}
-use lib.IntN.{ℤ}
-use lib.ListN.{length, drop}
-use lib.Seq.{paste}
-use Rattle.laws.proofs.Taking.{Compacting, n-le, closed, begun, some-ahead, step-stretch, stretched}
-use Rattle.laws.specs.Moves.{in_front}
-use Rattle.events.specs.declared.Event.{Event}
+use mathlib.Core.Path.{◌≡◌}
+use Prim.Native.Nat.{◌+◌, ◌-◌, ◌<◌}
+use Rattle.laws.proofs.Taking.{Compacting}
 use Rattle.events.specs.Events.{zero_event}
-use Rattle.eventlist.specs.Rows.{rows_of, events_of}
+use Rattle.eventlist.specs.Rows.{rows_of}
 use Rattle.eventlist.specs.Windows.{windows_of, taken_by_any}
-use Rattle.eventlist.proofs.EventRows.{same_rows}
-use Rattle.eventlist.proofs.Clearing.{first-within, untouched, counted-moves}
 use Rattle.eventlist.proofs.clear_windows.Given as goal
 
 abbrev pub invariant-loop-i : goal.invariant-loop-i

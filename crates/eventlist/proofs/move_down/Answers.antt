@@ -1,11 +1,9 @@
 -- `move_down` meets its contract: so many have been moved, and the next one stands where it stood (`down-read`).
-use borrow.Author.Rules.{rules}
 use mathlib.Core.List.{List}
-use mathlib.Core.Path.{◌≡◌, refl, sym, ap, ◌∙◌}
-use Prim.Native.Nat.{◌+◌, ◌-◌, ◌≤◌}
+use mathlib.Core.Path.{◌≡◌, refl, ap, ◌∙◌}
+use Prim.Native.Nat.{◌+◌}
 use native.Mathlib.Omega.{arith}
-use lib.ListN.{length, get_or, set, drop}
-use lib.Seq.{paste}
+use lib.ListN.{length, get_or, set}
 use mir.Syntax.{w64}
 use mir.Val.{Fits}
 use Rattle.laws.proofs.Compact.{down-none, down-more}
@@ -22,7 +20,7 @@ module _ (c : goal.In-loop-moved) where
 
   -- c place below them is c number
   inside : Fits w64 (c.args.from + c.loop-moved.moved)
-  inside = record { fits = omega (arith, c.requires.1, length-rows_of c.args.events.now, c.good.0.1) }
+  inside = record { fits = omega (arith, c.requires.1, length-rows_of c.args.events.now) }
 
 -- as many records as at entry, and they lie within the slice
 module _ (c : goal.After-write_event-arg-1) where
@@ -31,7 +29,7 @@ module _ (c : goal.After-write_event-arg-1) where
 
   -- c place below them is c number
   inside-at-2 : Fits w64 (c.args.from + c.loop-moved.moved)
-  inside-at-2 = record { fits = omega (arith, c.requires.1, length-rows_of c.args.events.now, c.good.0.1) }
+  inside-at-2 = record { fits = omega (arith, c.requires.1, length-rows_of c.args.events.now) }
 
 pub loop-moved-init : goal.loop-moved-init
 loop-moved-init c = (omega arith, refl, down-none zero_event (rows_of c.args.events.now) c.args.from c.args.to (omega (arith, c.requires.0)))
@@ -43,7 +41,7 @@ pub read_event-e-requires : goal.read_event-e-requires
 read_event-e-requires c = let r = rows_at c in omega (arith, c.requires.1)
 
 pub overflow_add-to : goal.overflow_add-to
-overflow_add-to c = omega (arith, (inside-at-2 c).ranges, c.requires.0)
+overflow_add-to c = omega (arith, (inside-at-2 c).fits, c.requires.0)
 
 pub write_event-requires : goal.write_event-requires
 write_event-requires c = let r = rows_at-at-2 c in omega (arith, c.requires.0, c.requires.1)
@@ -60,7 +58,7 @@ loop-moved-preserved c =
     let R = rows_of s.events.now in
     let p = c.requires in (
       omega arith,
-      c.write_event.auto.0 ∙ c.loop-moved.invariant.1,
+      c.write_event.auto.events ∙ c.loop-moved.invariant.1,
       c.write_event.ensures
           ∙ ap (set (rows_of c.loop-moved.events) (s.to + c.loop-moved.moved)) c.read_event-e.ensures
           ∙ ap (λ (x : List Event). set x (s.to + c.loop-moved.moved) (get_or x (s.from + c.loop-moved.moved) zero_event)) c.loop-moved.invariant.2

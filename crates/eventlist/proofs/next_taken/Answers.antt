@@ -1,20 +1,16 @@
 -- `next_taken` meets its contract: none of the events passed is taken, and those that stand before the next one are counted (Leading).
-use borrow.Author.Rules.{rules}
 use mathlib.Core.Bool.{Bool, true, false, not}
 use mathlib.Core.List.{List}
 use mathlib.Core.Path.{◌≡◌, refl, sym, ap, ◌∙◌}
-use Prim.Native.Nat.{ℕ, ◌+◌, ◌-◌, ◌≤◌, ◌<◌}
+use Prim.Native.Nat.{◌<◌}
 use native.Mathlib.Omega.{arith}
-use lib.IntN.{ℤ}
-use lib.ListN.{length, get_or, drop}
+use lib.ListN.{length, get_or}
 use lib.Seq.{length-take-le, get_or-take}
-use Rattle.laws.specs.Moves.{in_front}
 use Rattle.laws.proofs.Leading.{one_more, no_more, at-end}
 use Rattle.events.specs.declared.Event.{Event}
 use Rattle.events.specs.Events.{zero_event}
 use Rattle.eventlist.specs.Rows.{rows_of, events_of}
 use Rattle.eventlist.specs.Windows.{windows_of, taken_by_any}
-use Rattle.eventlist.proofs.next_taken.Invariants.{ahead}
 use Rattle.eventlist.proofs.next_taken.Goals as goal
 
 -- what the test of event j says of it
@@ -26,12 +22,12 @@ module _ (c : goal.Then-takes) where
   es = events_of c.args.events.now c.args.count
 
   at : c.loop-j.j < length es
-  at = let n = length-take-le c.args.count (rows_of c.args.events.now) c.requires.1 in let i = c.loop-j-test.taken in omega arith
+  at = let n = length-take-le c.args.count (rows_of c.args.events.now) c.requires.1 in let i = c.loop-j-test.true in omega arith
 
   told : (t : Bool) → c.takes.result ≡ t → not (out (get_or es c.loop-j.j zero_event)) ≡ not t
   told t e =
       ap not
-      (ap out (get_or-take c.args.count (rows_of c.args.events.now) c.loop-j.j zero_event c.loop-j-test.taken ∙ sym c.read_event.ensures)
+      (ap out (get_or-take c.args.count (rows_of c.args.events.now) c.loop-j.j zero_event c.loop-j-test.true ∙ sym c.read_event.ensures)
       ∙ sym c.takes.ensures
       ∙ e)
 
@@ -44,12 +40,12 @@ module _ (c : goal.Else-takes) where
   es-at-2 = events_of c.args.events.now c.args.count
 
   at-at-2 : c.loop-j.j < length es-at-2
-  at-at-2 = let n = length-take-le c.args.count (rows_of c.args.events.now) c.requires.1 in let i = c.loop-j-test.taken in omega arith
+  at-at-2 = let n = length-take-le c.args.count (rows_of c.args.events.now) c.requires.1 in let i = c.loop-j-test.true in omega arith
 
   told-at-2 : (t : Bool) → c.takes.result ≡ t → not (out-at-2 (get_or es-at-2 c.loop-j.j zero_event)) ≡ not t
   told-at-2 t e =
       ap not
-      (ap out-at-2 (get_or-take c.args.count (rows_of c.args.events.now) c.loop-j.j zero_event c.loop-j-test.taken ∙ sym c.read_event.ensures)
+      (ap out-at-2 (get_or-take c.args.count (rows_of c.args.events.now) c.loop-j.j zero_event c.loop-j-test.true ∙ sym c.read_event.ensures)
       ∙ sym c.takes.ensures
       ∙ e)
 

@@ -1,18 +1,11 @@
 -- `next_taken` meets its contract: none of the events passed is taken, and those that stand before the next one are counted (Leading).
-use borrow.Author.Rules.{rules}
-use mathlib.Core.Bool.{Bool, true, false, not}
 use mathlib.Core.List.{List}
-use mathlib.Core.Path.{◌≡◌, refl, sym, ap, ◌∙◌}
-use Prim.Native.Nat.{ℕ, ◌+◌, ◌-◌, ◌≤◌, ◌<◌}
-use native.Mathlib.Omega.{arith}
+use mathlib.Core.Path.{◌≡◌}
+use Prim.Native.Nat.{ℕ, ◌+◌, ◌-◌, ◌≤◌}
 use lib.IntN.{ℤ}
-use lib.ListN.{length, get_or, drop}
-use lib.Seq.{length-take-le, get_or-take}
+use lib.ListN.{drop}
 use Rattle.laws.specs.Moves.{in_front}
-use Rattle.laws.proofs.Leading.{one_more, no_more, at-end}
-use Rattle.events.specs.declared.Event.{Event}
-use Rattle.events.specs.Events.{zero_event}
-use Rattle.eventlist.specs.Rows.{rows_of, events_of}
+use Rattle.eventlist.specs.Rows.{events_of}
 use Rattle.eventlist.specs.Windows.{windows_of, taken_by_any}
 use Rattle.eventlist.proofs.next_taken.Given as goal
 

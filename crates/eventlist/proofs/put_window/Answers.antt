@@ -1,5 +1,4 @@
 -- `put_window` meets its contract: as `window_at`, the part that is lent being put back (`write-part`).
-use borrow.Author.Rules.{rules}
 use native.Mathlib.Omega.{arith}
 use Rattle.eventlist.proofs.WindowRows.{room, write-part}
 use Rattle.eventlist.proofs.put_window.Goals as goal
@@ -15,4 +14,7 @@ offset_bounds-windows-a c = omega (arith, room c.args.windows.now c.args.j c.req
 
 pub returns : goal.returns
 returns c =
-    write-part c.args.windows.now c.args.j c.requires c.set_window.new.0 c.args.w c.set_window.ensures
+    write-part c.args.windows.now c.args.j c.requires c.set_window.new.s c.args.w c.set_window.ensures
+
+pub slice_bounds-set_window-end : goal.slice_bounds-set_window-end
+slice_bounds-set_window-end c = omega (arith, room c.args.windows.now c.args.j c.requires)

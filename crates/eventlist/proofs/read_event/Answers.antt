@@ -1,5 +1,4 @@
 -- `read_event` meets its contract: record i lies within the slice (`room`), and the part that is lent says it (`read-part`).
-use borrow.Author.Rules.{rules}
 use mathlib.Core.Path.{◌∙◌}
 use native.Mathlib.Omega.{arith}
 use Rattle.eventlist.proofs.EventRows.{room, read-part}
@@ -16,3 +15,6 @@ offset_bounds-events-a c = omega (arith, room c.args.events.now c.args.i c.requi
 
 pub returns : goal.returns
 returns c = c.decode.ensures ∙ read-part c.args.events.now c.args.i c.requires
+
+pub slice_bounds-decode-end : goal.slice_bounds-decode-end
+slice_bounds-decode-end c = omega (arith, room c.args.events.now c.args.i c.requires)

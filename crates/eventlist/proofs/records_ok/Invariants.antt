@@ -1,14 +1,8 @@
 -- `records_ok` meets its contract: the events passed may be stored, so that those left decide (laws of Tests).
-use borrow.Author.Rules.{rules}
-use mathlib.Core.Bool.{Bool}
-use mathlib.Core.Path.{◌≡◌, refl, sym, ap, ◌∙◌}
 use Prim.Native.Nat.{◌-◌, ◌≤◌}
-use native.Mathlib.Omega.{arith}
-use lib.ListN.{get_or}
-use Rattle.laws.proofs.Tests.{Left, passed-of, failed-of, ended_of, no, yes}
-use Rattle.events.specs.Events.{ok_event, zero_event}
-use Rattle.eventlist.specs.Rows.{rows_of, events_of}
-use Rattle.eventlist.specs.Sound.{ok_events}
+use Rattle.laws.proofs.Tests.{Left}
+use Rattle.events.specs.Events.{ok_event}
+use Rattle.eventlist.specs.Rows.{events_of}
 use Rattle.eventlist.proofs.records_ok.Given as goal
 
 abbrev pub invariant-loop-i : goal.invariant-loop-i

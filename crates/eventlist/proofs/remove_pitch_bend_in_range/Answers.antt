@@ -1,9 +1,8 @@
 -- `remove_pitch_bend_in_range` meets its contract: the tests in their order (Bends), then what is taken out, which for a whole
 -- number of records says every number (`determined`).
-use borrow.Author.Rules.{rules}
-use borrow.Author.Tests.{not-false}
-use mathlib.Core.Path.{◌≡◌, refl, sym, ap, ◌∙◌}
-use mathlib.Core.Bool.{Bool, true, ◌&&◌}
+use borrow.Author.Tests.{not-false, not-true}
+use mathlib.Core.Path.{◌≡◌, sym, ap, ◌∙◌}
+use mathlib.Core.Bool.{true, ◌&&◌}
 use mathlib.Core.List.{List, [], ◌∷◌}
 use Prim.Native.Nat.{ℕ, ◌^◌, ◌≤◌}
 use native.Mathlib.Omega.{arith}
@@ -13,9 +12,9 @@ use lib.Signed.{mag}
 use mir.Syntax.{w64}
 use mir.Val.{SFits}
 use mir.Facts.{to_z-of_z}
-use Rattle.laws.proofs.Ranges.{left, right, sized-mag}
+use Rattle.laws.proofs.Ranges.{right, sized-mag}
 use Rattle.laws.proofs.Signed.{mag-add}
-use Rattle.laws.proofs.Tests.{is_at, both, no, yes}
+use Rattle.laws.proofs.Tests.{is_at, both}
 use Rattle.numbers.specs.Ranges.{is_time}
 use Rattle.laws.specs.Lists.{without, put_first}
 use Rattle.events.specs.declared.Event.{Event}
@@ -26,7 +25,7 @@ use Rattle.eventlist.specs.Rows.{rows_of, events_of}
 use Rattle.eventlist.specs.Windows.{windows_of, taken_by_any, kept_by}
 use Rattle.eventlist.specs.Bends.{bends_in}
 use Rattle.eventlist.specs.Clearing.{kept_by_all}
-use Rattle.eventlist.specs.Sound.{is_list, ok_events}
+use Rattle.eventlist.specs.Sound.{is_list}
 use Rattle.eventlist.proofs.EventRows.{determined}
 use Rattle.eventlist.proofs.Sound.{list-whole, list-within}
 use Rattle.eventlist.proofs.Surveying.{ok-is, surveyed}
@@ -81,103 +80,88 @@ module _ (c : goal.After-windows-1) where
 
 -- past the first test
 listed : (c : goal.Then-not-is_time) → is_list (l-at-2 c) c.args.count ≡ true
-listed c = yes c.list_ok.ensures c.if-not-list_ok.false
+listed c = sym c.list_ok.ensures ∙ c.if-not-list_ok.false
 
 -- past the first test
 listed-at-2 : (c : goal.Then-not-seen) → is_list (l-at-3 c) c.args.count ≡ true
-listed-at-2 c = yes c.list_ok.ensures c.if-not-list_ok.false
+listed-at-2 c = sym c.list_ok.ensures ∙ c.if-not-list_ok.false
 
 -- past the first test
 listed-at-3 : (c : goal.After-events-1) → is_list (l-at-5 c) c.args.count ≡ true
-listed-at-3 c = yes c.list_ok.ensures c.if-not-list_ok.false
+listed-at-3 c = sym c.list_ok.ensures ∙ c.if-not-list_ok.false
 
 -- past the first test
 listed-at-5 : (c : goal.After-windows-1) → is_list (l-at-7 c) c.args.count ≡ true
-listed-at-5 c = yes c.list_ok.ensures c.if-not-list_ok.false
+listed-at-5 c = sym c.list_ok.ensures ∙ c.if-not-list_ok.false
 
 -- past the first test
 listed-at-6 : (c : goal.After-windows-2-1) → is_list (l-at-4 c) c.args.count ≡ true
-listed-at-6 c = yes c.list_ok.ensures c.if-not-list_ok.false
+listed-at-6 c = sym c.list_ok.ensures ∙ c.if-not-list_ok.false
 
 -- the second
 module _ (c : goal.Then-not-is_time) where
   asked : (c.is_time.result && c.is_time-2.result) ≡ (is_time c.args.start && is_time c.args.end)
-  asked = both (is_at w64 is_time c.fits.start.sfits c.is_time.ensures) (is_at w64 is_time c.fits.end.sfits c.is_time-2.ensures)
+  asked = both (is_at w64 is_time c.ranges.start.sfits c.is_time.ensures) (is_at w64 is_time c.ranges.end.sfits c.is_time-2.ensures)
 
 -- the second
 module _ (c : goal.Else-not-is_time) where
   asked-at-2 : (c.is_time.result && c.is_time-2.result) ≡ (is_time c.args.start && is_time c.args.end)
-  asked-at-2 = both (is_at w64 is_time c.fits.start.sfits c.is_time.ensures) (is_at w64 is_time c.fits.end.sfits c.is_time-2.ensures)
+  asked-at-2 = both (is_at w64 is_time c.ranges.start.sfits c.is_time.ensures) (is_at w64 is_time c.ranges.end.sfits c.is_time-2.ensures)
 
 -- the second
 module _ (c : goal.Then-not-seen) where
   asked-at-4 : (c.is_time.result && c.is_time-2.result) ≡ (is_time c.args.start && is_time c.args.end)
-  asked-at-4 = both (is_at w64 is_time c.fits.start.sfits c.is_time.ensures) (is_at w64 is_time c.fits.end.sfits c.is_time-2.ensures)
+  asked-at-4 = both (is_at w64 is_time c.ranges.start.sfits c.is_time.ensures) (is_at w64 is_time c.ranges.end.sfits c.is_time-2.ensures)
 
 -- the second
 module _ (c : goal.After-events-1) where
   asked-at-6 : (c.is_time.result && c.is_time-2.result) ≡ (is_time c.args.start && is_time c.args.end)
-  asked-at-6 = both (is_at w64 is_time c.fits.start.sfits c.is_time.ensures) (is_at w64 is_time c.fits.end.sfits c.is_time-2.ensures)
+  asked-at-6 = both (is_at w64 is_time c.ranges.start.sfits c.is_time.ensures) (is_at w64 is_time c.ranges.end.sfits c.is_time-2.ensures)
 
 -- past it
 module _ (c : goal.Else-not-is_time) where
-  abbrev s : tie.Start
-  s = c
+  timed : (is_time c.args.start && is_time c.args.end) ≡ true
+  timed = sym (asked-at-2 c) ∙ c.if-not-is_time.false
 
-  timed : (is_time s.args.start && is_time s.args.end) ≡ true
-  timed = yes (asked-at-2 c) c.if-not-is_time.false
-
-  end-near : mag s.args.end ≤ 2 ^ 40
+  end-near : mag c.args.end ≤ 2 ^ 40
   unfolding is_time
-  end-near = sized-mag (2 ^ 40) s.args.end (right (is_time s.args.start) (is_time s.args.end) timed)
+  end-near = sized-mag (2 ^ 40) c.args.end (right (is_time c.args.start) (is_time c.args.end) timed)
 
-  past_fits : SFits w64 (s.args.end +ℤ pos 1)
-  past_fits = let h = end-near in let a = mag-add s.args.end (pos 1) in omega arith
+  past_fits : SFits w64 (c.args.end +ℤ pos 1)
+  past_fits = let h = end-near in let a = mag-add c.args.end (pos 1) in omega arith
 
 -- past it
 module _ (c : goal.After-windows-1) where
-  abbrev s-at-2 : tie.Start
-  s-at-2 = c
-
-  fit-at-2 : s-at-2.args.count ≤ length (rows_of (l-at-7 s-at-2))
-  fit-at-2 = list-within (l-at-7 s-at-2) s-at-2.args.count (listed-at-5 c)
+  fit-at-2 : c.args.count ≤ length (rows_of (l-at-7 c))
+  fit-at-2 = list-within (l-at-7 c) c.args.count (listed-at-5 c)
 
 -- past it
 module _ (c : goal.Then-not-seen) where
-  abbrev s-at-3 : tie.Start
-  s-at-3 = c
+  timed-at-3 : (is_time c.args.start && is_time c.args.end) ≡ true
+  timed-at-3 = sym (asked-at-4 c) ∙ c.if-not-is_time.false
 
-  timed-at-3 : (is_time s-at-3.args.start && is_time s-at-3.args.end) ≡ true
-  timed-at-3 = yes (asked-at-4 c) c.if-not-is_time.false
-
-  fit-at-3 : s-at-3.args.count ≤ length (rows_of (l-at-3 s-at-3))
-  fit-at-3 = list-within (l-at-3 s-at-3) s-at-3.args.count (listed-at-2 c)
+  fit-at-3 : c.args.count ≤ length (rows_of (l-at-3 c))
+  fit-at-3 = list-within (l-at-3 c) c.args.count (listed-at-2 c)
 
 -- past it
 module _ (c : goal.After-windows-2-1) where
-  abbrev s-at-4 : tie.Start
-  s-at-4 = c
-
-  fit-at-4 : s-at-4.args.count ≤ length (rows_of (l-at-4 s-at-4))
-  fit-at-4 = list-within (l-at-4 s-at-4) s-at-4.args.count (listed-at-6 c)
+  fit-at-4 : c.args.count ≤ length (rows_of (l-at-4 c))
+  fit-at-4 = list-within (l-at-4 c) c.args.count (listed-at-6 c)
 
 -- past it
 module _ (c : goal.After-events-1) where
-  abbrev s-at-5 : tie.Start
-  s-at-5 = c
+  timed-at-5 : (is_time c.args.start && is_time c.args.end) ≡ true
+  timed-at-5 = sym (asked-at-6 c) ∙ c.if-not-is_time.false
 
-  timed-at-5 : (is_time s-at-5.args.start && is_time s-at-5.args.end) ≡ true
-  timed-at-5 = yes (asked-at-6 c) c.if-not-is_time.false
-
-  end-near-at-5 : mag s-at-5.args.end ≤ 2 ^ 40
+  end-near-at-5 : mag c.args.end ≤ 2 ^ 40
   unfolding is_time
-  end-near-at-5 = sized-mag (2 ^ 40) s-at-5.args.end (right (is_time s-at-5.args.start) (is_time s-at-5.args.end) timed-at-5)
+  end-near-at-5 = sized-mag (2 ^ 40) c.args.end (right (is_time c.args.start) (is_time c.args.end) timed-at-5)
 
-  past_fits-at-5 : SFits w64 (s-at-5.args.end +ℤ pos 1)
-  past_fits-at-5 = let h = end-near-at-5 in let a = mag-add s-at-5.args.end (pos 1) in omega arith
+  past_fits-at-5 : SFits w64 (c.args.end +ℤ pos 1)
+  past_fits-at-5 = let h = end-near-at-5 in let a = mag-add c.args.end (pos 1) in omega arith
 
-  fit-at-5 : s-at-5.args.count ≤ length (rows_of (l-at-5 s-at-5))
-  fit-at-5 = list-within (l-at-5 s-at-5) s-at-5.args.count (listed-at-3 c)
+  fit-at-5 : c.args.count ≤ length (rows_of (l-at-5 c))
+  fit-at-5 = list-within (l-at-5 c) c.args.count (listed-at-3 c)
 
 -- what the window leaves, as the definition has it
 module _ (c : goal.Then-not-seen) where
@@ -195,31 +179,31 @@ module _ (c : goal.After-events-1) where
   ws-at-3 = windows_of c.lone_window-windows.result
 
   abbrev bends-at-3 : Window
-  bends-at-3 = bends_in (s-at-5 c).args.start (s-at-5 c).args.end
+  bends-at-3 = bends_in c.args.start c.args.end
 
   windows-are-at-3 : ws-at-3 ≡ bends-at-3 ∷ []
-  windows-are-at-3 = rw (to_z-of_z (s-at-5 c).fits.start, to_z-of_z (s-at-5 c).fits.end, to_z-of_z (past_fits-at-5 c)) at c.lone_window-windows.ensures
+  windows-are-at-3 = rw (to_z-of_z c.ranges.start, to_z-of_z c.ranges.end, to_z-of_z (past_fits-at-5 c)) at c.lone_window-windows.ensures
 
-  kept-is-at-3 : kept_by_all ws-at-3 (l-at-5 (s-at-5 c)) (s-at-5 c).args.count ≡ kept_by bends-at-3 (l-at-5 (s-at-5 c)) (s-at-5 c).args.count
+  kept-is-at-3 : kept_by_all ws-at-3 (l-at-5 c) c.args.count ≡ kept_by bends-at-3 (l-at-5 c) c.args.count
   kept-is-at-3 =
-      let es = events_of (l-at-5 (s-at-5 c)) (s-at-5 c).args.count in
+      let es = events_of (l-at-5 c) c.args.count in
       ap (λ (x : List Window). without (taken_by_any x) es) windows-are-at-3 ∙ windows-one bends-at-3 es
 
 -- src/lib.rt:396:9
 pub returns-then-not-list_ok : goal.returns-then-not-list_ok
 returns-then-not-list_ok c =
-    let q = no-list (bytes c) (l c) c.args.count c.args.start c.args.end (no c.list_ok.ensures c.if-not-list_ok.true) in
+    let q = no-list (bytes c) (l c) c.args.count c.args.start c.args.end (sym c.list_ok.ensures ∙ c.if-not-list_ok.true) in
     (rw q, rw q)
 
 -- src/lib.rt:402:9
 pub returns-then-not-is_time : goal.returns-then-not-is_time
 returns-then-not-is_time c =
-    let q = no-times (bytes-at-2 c) (l-at-2 c) c.args.count c.args.start c.args.end (listed c) (no (asked c) c.if-not-is_time.true) in
+    let q = no-times (bytes-at-2 c) (l-at-2 c) c.args.count c.args.start c.args.end (listed c) (sym (asked c) ∙ c.if-not-is_time.true) in
     (rw q, rw q)
 
 -- src/lib.rt:407:16
 pub overflow_add-past : goal.overflow_add-past
-overflow_add-past c = rw (to_z-of_z (s c).ranges.end) (past_fits c)
+overflow_add-past c = rw (to_z-of_z c.ranges.end) (past_fits c)
 
 -- src/lib.rt:415:9
 pub survey-seen-requires : goal.survey-seen-requires
@@ -228,24 +212,21 @@ survey-seen-requires c = fit-at-2 c
 -- src/lib.rt:417:9
 pub returns-then-not-seen : goal.returns-then-not-seen
 returns-then-not-seen c =
-    let t = s-at-3 c in
-    let bad = no (ok-is (bytes-at-3 t) (ws c) (l-at-3 t) t.args.count (fit-at-3 c) c.survey-seen.result c.survey-seen.ensures) c.if-not-seen.true in
-    let q = no-events (bytes-at-3 t) (l-at-3 t) t.args.count t.args.start t.args.end (listed-at-2 c) (timed-at-3 c) bad in
+    let bad = (sym (ok-is (bytes-at-3 c) (ws c) (l-at-3 c) c.args.count (fit-at-3 c) c.survey-seen.result c.survey-seen.ensures) ∙ not-true _ c.if-not-seen.true) in
+    let q = no-events (bytes-at-3 c) (l-at-3 c) c.args.count c.args.start c.args.end (listed-at-2 c) (timed-at-3 c) bad in
     (rw q, rw q)
 
 -- src/lib.rt:422:9
 pub clear_windows-done-requires : goal.clear_windows-done-requires
 clear_windows-done-requires c =
-    let t = s-at-4 c in
-    (fit-at-4 c, surveyed (bytes-at-4 t) (ws-at-2 c) (l-at-4 t) t.args.count (fit-at-4 c) c.survey-seen.result c.survey-seen.ensures (not-false _ c.if-not-seen.false))
+    (fit-at-4 c, surveyed (bytes-at-4 c) (ws-at-2 c) (l-at-4 c) c.args.count (fit-at-4 c) c.survey-seen.result c.survey-seen.ensures (not-false _ c.if-not-seen.false))
 
 -- src/lib.rt:385:1
 pub returns : goal.returns
 returns c =
-    let t = s-at-5 c in
     let ok = not-false _ c.if-not-seen.false in
-    let q = well (bytes-at-5 t) (l-at-5 t) t.args.count t.args.start t.args.end (listed-at-3 c) (timed-at-5 c) (sym (ok-is (bytes-at-5 t) (ws-at-3 c) (l-at-5 t) t.args.count (fit-at-5 c) c.survey-seen.result c.survey-seen.ensures) ∙ ok) in (
+    let q = well (bytes-at-5 c) (l-at-5 c) c.args.count c.args.start c.args.end (listed-at-3 c) (timed-at-5 c) (sym (ok-is (bytes-at-5 c) (ws-at-3 c) (l-at-5 c) c.args.count (fit-at-5 c) c.survey-seen.result c.survey-seen.ensures) ∙ ok) in (
       rw q (ap (λ (r : Cleared). record { code = 0; count = r.left }) c.clear_windows-done.ensures.0 ∙ ap (λ (x : List Event). record { code = 0; count = length x }) (kept-is-at-3 c)),
-      rw q (determined (l-at-5 t) c.clear_windows-done.new.0 _ (list-whole (l-at-5 t) t.args.count (listed-at-3 c)) c.clear_windows-done.auto.0
-          (c.clear_windows-done.ensures.1 ∙ ap (λ (x : List Event). put_first zero_event t.args.count x (rows_of (l-at-5 t))) (kept-is-at-3 c))),
+      rw q (determined (l-at-5 c) c.clear_windows-done.new.events _ (list-whole (l-at-5 c) c.args.count (listed-at-3 c)) c.clear_windows-done.auto.events
+          (c.clear_windows-done.ensures.1 ∙ ap (λ (x : List Event). put_first zero_event c.args.count x (rows_of (l-at-5 c))) (kept-is-at-3 c))),
     )

@@ -1,6 +1,5 @@
 -- `set_window` meets its contract: four stores at literal places store over all of a part of four (`sets-all`). Each field went
 -- through a local, as its bits, and is read back as it was.
-use borrow.Author.Rules.{rules}
 use mathlib.Core.Path.{◌∙◌}
 use mathlib.Core.List.{[], ◌∷◌}
 use lib.IntN.{ℤ}

@@ -1,5 +1,4 @@
 -- `takes` meets its contract: out of the span no window takes the event (`outside`).
-use borrow.Author.Rules.{rules}
 use mathlib.Core.Path.{sym, ap₂, ◌∙◌}
 use lib.Signed.{lt_z, le_z}
 use mir.Syntax.{w64}

@@ -1,5 +1,4 @@
 -- `widen` meets its contract: the earlier start and the later end, each of two numbers that fit.
-use borrow.Author.Rules.{rules}
 use mathlib.Core.Bool.{Bool, true, false, cond}
 use mathlib.Core.Path.{◌≡◌, ap₂, ◌∙◌}
 use lib.IntN.{ℤ}
@@ -29,5 +28,5 @@ returns c =
     let se : SFits w64 i.s.end = record { sfits = gs.1.0.1 } in
     rw (
       chosen (λ a b. cond (lt_z a b) a b) ws ss (one-fits (lt_z i.w.start i.s.start) ws ss) c.earlier_of-start.ensures,
-      chosen (λ a b. cond (lt_z a b) b a) se we (one-fits (lt_z i.s.end i.w.end) we se) c.Later-of.ensures,
+      chosen (λ a b. cond (lt_z a b) b a) se we (one-fits (lt_z i.s.end i.w.end) we se) c.later_of-end.ensures,
     )

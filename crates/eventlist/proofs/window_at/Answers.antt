@@ -1,5 +1,4 @@
 -- `window_at` meets its contract: window j lies within the slice (`room`), and the part that is lent says it (`read-part`).
-use borrow.Author.Rules.{rules}
 use mathlib.Core.Path.{◌∙◌}
 use native.Mathlib.Omega.{arith}
 use Rattle.eventlist.proofs.WindowRows.{room, read-part}
@@ -16,3 +15,6 @@ offset_bounds-windows-a c = omega (arith, room c.args.windows.now c.args.j c.req
 
 pub returns : goal.returns
 returns c = c.window_in.ensures ∙ read-part c.args.windows.now c.args.j c.requires
+
+pub slice_bounds-window_in-end : goal.slice_bounds-window_in-end
+slice_bounds-window_in-end c = omega (arith, room c.args.windows.now c.args.j c.requires)

@@ -1,5 +1,4 @@
 -- `write_event` meets its contract: as `read_event`, the part that is lent being put back (`write-part`).
-use borrow.Author.Rules.{rules}
 use native.Mathlib.Omega.{arith}
 use Rattle.eventlist.proofs.EventRows.{room, write-part}
 use Rattle.eventlist.proofs.write_event.Goals as goal
@@ -15,4 +14,7 @@ offset_bounds-events-a c = omega (arith, room c.args.events.now c.args.i c.requi
 
 pub returns : goal.returns
 returns c =
-    write-part c.args.events.now c.args.i c.requires c.encode.new.0 c.args.e c.encode.ensures
+    write-part c.args.events.now c.args.i c.requires c.encode.new.s c.args.e c.encode.ensures
+
+pub slice_bounds-encode-end : goal.slice_bounds-encode-end
+slice_bounds-encode-end c = omega (arith, room c.args.events.now c.args.i c.requires)

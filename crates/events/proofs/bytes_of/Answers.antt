@@ -1,5 +1,4 @@
 -- `bytes_of` meets its contract: each arm's kinds, by the laws of Matching. No sum wraps, since a length fits 63 bits.
-use borrow.Author.Rules.{rules}
 use mathlib.Core.Path.{◌≡◌, ap, ◌∙◌}
 use mathlib.Core.Logic.{⊎_elim, inl, inr}
 use Prim.Native.Nat.{ℕ, ◌+◌}
@@ -100,26 +99,26 @@ pub returns-in-0 : goal.returns-in-0
 unfolding bytes_of
 returns-in-0 c =
     let f = kind_fits-at-3 c in
-    ⊎_elim (λ h. rw (bits-eq f first h)) (λ h. rw (bits-eq f ranged h)) c.in-0-own.keys1
+    ⊎_elim (λ h. rw (bits-eq f first h)) (λ h. rw (bits-eq f ranged h)) c.in-0.in-0-own.keys1
 
 pub returns-in-8 : goal.returns-in-8
 unfolding bytes_of
 returns-in-8 c =
-    rw (bits-eq (kind_fits c) direct c.in-8-own.keys2) (ap (λ (n : ℕ). 8 + n) (counted c c.data_bytes.result c.data_bytes.ensures))
+    rw (bits-eq (kind_fits c) direct c.in-8.in-8-own.keys2) (ap (λ (n : ℕ). 8 + n) (counted c c.data_bytes.result c.data_bytes.ensures))
 
 pub returns-in-6 : goal.returns-in-6
 returns-in-6 c =
     let f = kind_fits-at-2 c in
     ap (λ (n : ℕ). 12 + n) (counted-at-2 c c.data_bytes-in-6.result c.data_bytes-in-6.ensures)
-    ∙ size-inside (k-at-2 c) (len-at-2 c) (lt-back-l (pos 6) f c.if-kind-lt6-own.false) (lt-back-l (pos 8) f c.if-kind-lt8-own.true)
+    ∙ size-inside (k-at-2 c) (len-at-2 c) (lt-back-l (pos 6) f c.in-6.if-kind-lt6-own.false) (lt-back-l (pos 8) f c.in-6.if-kind-lt8-own.true)
 
 pub returns-in_default : goal.returns-in_default
 returns-in_default c =
     let f = kind_fits-at-4 c in
-    let other = c.in_default-own.rest.0.1 in
-    size_below (k-at-4 c) (len-at-4 c) (lt-back-l (pos 6) f c.if-kind-lt6-own.true) (bits-differ f first (λ h. other (inl h))) (bits-differ f ranged (λ h. other (inr h)))
+    let other = c.in_default.in_default-own.rest.0.1 in
+    size_below (k-at-4 c) (len-at-4 c) (lt-back-l (pos 6) f c.in_default.if-kind-lt6-own.true) (bits-differ f first (λ h. other (inl h))) (bits-differ f ranged (λ h. other (inr h)))
 
 pub returns-in_default-2 : goal.returns-in_default-2
 returns-in_default-2 c =
     let f = kind_fits-at-5 c in
-    size_above (k-at-5 c) (len-at-5 c) (lt-back-l (pos 8) f c.if-kind-lt8-own.false) (bits-differ f direct c.in_default-own.rest.1)
+    size_above (k-at-5 c) (len-at-5 c) (lt-back-l (pos 8) f c.in_default.if-kind-lt8-own.false) (bits-differ f direct c.in_default.in_default-own.rest.1)

@@ -1,5 +1,4 @@
 -- `data_ok` meets its contract: no data is allowed in any kind (`without-data`); else the kind says whether there may be some.
-use borrow.Author.Rules.{rules}
 use mathlib.Core.Bool.{◌&&◌}
 use lib.Dec.{eqb}
 use mir.Val.{of_z}

@@ -1,4 +1,3 @@
-use borrow.Author.Rules.{rules}
 use Rattle.laws.proofs.Tests.{is_at}
 use Rattle.events.specs.Kinds.{is_kind}
 use mir.Syntax.{w64}

@@ -1,5 +1,4 @@
 -- `numbered_ok` meets its contract: the number counts where the kind is a controller's.
-use borrow.Author.Rules.{rules}
 use lib.Dec.{lit<}
 use mir.Syntax.{w64}
 use mir.Val.{SFits}

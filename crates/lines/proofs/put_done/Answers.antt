@@ -9,4 +9,4 @@ pub returns : goal.returns
 unfolding done_text
 returns c =
     let f = c.put_first-p.ensures in
-    behind (omega arith) f.0 c.put_lines.ensures
+    behind (omega arith) f.puts c.put_lines.ensures

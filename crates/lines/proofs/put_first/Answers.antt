@@ -11,4 +11,4 @@ returns c =
     let f = c.put_pair-p.ensures in
     let g = c.put_pair-q.ensures in
     let d = c.put_byte.ensures in
-    record { puts = behind (omega arith) (behind (omega arith) f.0 g.0) (puts d.0 d.1); upper_bound = omega (arith, f.1, g.1, d.1) }
+    record { puts = behind (omega arith) (behind (omega arith) f.puts g.puts) (puts d.0 d.1); upper_bound = omega (arith, f.upper_bound, g.upper_bound, d.1) }

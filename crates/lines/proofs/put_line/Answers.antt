@@ -19,4 +19,4 @@ returns c =
     let z = to_z-of_z {w = w64} {z = e.v3} (sfits_of c.struct_told-6-1.given.1.1.1.1.1.0.1) in
     let f = c.put_three-p.ensures in
     let g = c.put_three.ensures in
-    record { puts = behind (omega (arith, c.requires)) (rw (t, k, h) at f.0) (rw (x, y, z) at g.0); upper_bound = omega (arith, f.1, g.1) }
+    record { puts = behind (omega (arith, c.requires)) (rw (t, k, h) at f.puts) (rw (x, y, z) at g.puts); upper_bound = omega (arith, f.upper_bound, g.upper_bound) }

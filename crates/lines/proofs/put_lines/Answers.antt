@@ -31,7 +31,7 @@ loop-i-preserved c =
     let t = c.put_line-p in
     let e : c.read_event-e.result ≡ get_or (take c.args.count rows) c.loop-i.i zero_event =
     c.read_event-e.ensures ∙ sym (get_or-take c.args.count rows c.loop-i.i zero_event h) in
-    one_line c.args.at (take c.args.count rows) c.args.out.now (omega (arith, c.requires.1)) c.loop-i.invariant (omega (arith, n)) c.out-1.given (rw e at t.ensures.0) t.ensures.1
+    one_line c.args.at (take c.args.count rows) c.args.out.now (omega (arith, c.requires.1)) c.loop-i.invariant (omega (arith, n)) c.out-1.given (rw e at t.ensures.puts) t.ensures.upper_bound
 
 pub shape_of-out : goal.shape_of-out
 shape_of-out c = c.loop-i.invariant.long

@@ -10,4 +10,4 @@ unfolding pair_text
 returns c =
     let g = c.put_word-p.ensures in
     let d = c.put_word.ensures in
-    record { puts = behind (omega (arith, c.requires.2)) g.0 d.0; upper_bound = omega (arith, g.1, d.1) }
+    record { puts = behind (omega (arith, c.requires.2)) g.puts d.puts; upper_bound = omega (arith, g.upper_bound, d.upper_bound) }

@@ -10,4 +10,4 @@ unfolding refusal_text
 returns c =
     let g = c.put_pair-p.ensures in
     let d = c.put_byte.ensures in
-    behind (omega arith) g.0 (puts d.0 d.1)
+    behind (omega arith) g.puts (puts d.0 d.1)

@@ -15,7 +15,7 @@ returns c =
     let f = c.put_number_then-p.ensures in
     let g = c.put_number_then-q.ensures in
     let d = c.put_number_then.ensures in
-    let h : c.args.at ≤ length c.args.out.now = omega (arith, c.requires) in (
-      behind h (behind h (puts (rw x at f.0) (rw x at f.1)) (puts (rw y at g.0) (rw y at g.1))) (puts (rw z at d.0) (rw z at d.1)),
-      omega (arith, f.2, g.2, d.2),
-    )
+    let h : c.args.at ≤ length c.args.out.now = omega (arith, c.requires) in record {
+      puts = behind h (behind h (puts (rw x at f.0) (rw x at f.1)) (puts (rw y at g.0) (rw y at g.1))) (puts (rw z at d.0) (rw z at d.1));
+      upper_bound = omega (arith, f.2, g.2, d.2);
+    }

@@ -14,7 +14,7 @@ use Rattle.noting.proofs.append_all.Goals as goal
 pub loop-i-init : goal.loop-i-init
 loop-i-init c =
     let a = c.args in
-    (A.begun zero_event (rows_of a.events.now) a.t4 a.count a.made (omega (arith, c.requires.1)), refl)
+    (A.begun zero_event (rows_of a.events.now) a.new a.count a.made (omega (arith, c.requires.1)), refl)
 
 pub append-n-requires : goal.append-n-requires
 append-n-requires c =
@@ -26,12 +26,12 @@ loop-i-preserved c =
     let p = c.append-n in
     let a = c.args in
     let less : c.loop-i.i < a.made = search rules in
-    let m : length a.t4 ≡ 16 = search (rules, length-told) in
+    let m : length a.new ≡ 16 = search (rules, length-told) in
     let few = c.requires.0 in (
       rw p.ensures.0
-          (A.one_more zero_event (rows_of a.events.now) a.t4 a.count a.made (omega (arith, c.requires.1)) (omega arith)
-          (rows_of c.loop-i.events) c.loop-i.n c.loop-i.i c.loop-i.invariant.0 less _ (rows_of p.new.0) p.ensures.1),
-      p.auto.0 ∙ c.loop-i.invariant.1,
+          (A.one_more zero_event (rows_of a.events.now) a.new a.count a.made (omega (arith, c.requires.1)) (omega arith)
+          (rows_of c.loop-i.events) c.loop-i.n c.loop-i.i c.loop-i.invariant.0 less _ (rows_of p.new.events) p.ensures.1),
+      p.auto.events ∙ c.loop-i.invariant.1,
     )
 
 pub shape_of-events : goal.shape_of-events
@@ -40,7 +40,7 @@ shape_of-events c = c.loop-i.invariant.1
 pub returns : goal.returns
 returns c =
     let a = c.args in
-    let m : length a.t4 ≡ 16 = search (rules, length-told) in
+    let m : length a.new ≡ 16 = search (rules, length-told) in
     let few = c.requires.0 in
-    A.all_in zero_event (rows_of a.events.now) a.t4 a.count a.made (omega (arith, c.requires.1)) (omega arith)
+    A.all_in zero_event (rows_of a.events.now) a.new a.count a.made (omega (arith, c.requires.1)) (omega arith)
     (rows_of c.loop-i.events) c.loop-i.n c.loop-i.i c.loop-i.invariant.0 (search rules)

@@ -55,7 +55,7 @@ module _ (c : goal.Else-is_spent) where
   near-at-4 = omega (arith, less-at-4, c.requires)
 
   few-at-4 : c.loop-i.n < 16
-  few-at-4 = let v = c.loop-i in omega (arith, near-at-4, C.few no_note spent c.args.table.items c.args.table.count fit-at-4 v.notes.items v.n v.i v.inv)
+  few-at-4 = let v = c.loop-i in omega (arith, near-at-4, C.few no_note spent c.args.table.items c.args.table.count fit-at-4 v.notes.items v.n v.i v.invariant)
 
 pub loop-i-init : goal.loop-i-init
 loop-i-init c = let t = c.args.table in C.begun no_note spent t.items t.count
@@ -76,7 +76,7 @@ pub loop-i-preserved-then-is_spent : goal.loop-i-preserved-then-is_spent
 loop-i-preserved-then-is_spent c =
     let t = c.args.table in
     let v = c.loop-i in
-    C.taken_out no_note spent t.items t.count (fit-at-3 c) v.notes.items v.n v.i v.inv (less-at-3 c) past
+    C.taken_out no_note spent t.items t.count (fit-at-3 c) v.notes.items v.n v.i v.invariant (less-at-3 c) past
     c.no_note-none.result c.no_note-none.ensures c.is_spent.result c.is_spent.ensures c.if-is_spent.true
 
 pub offset_bounds-notes-n : goal.offset_bounds-notes-n
@@ -92,7 +92,7 @@ pub loop-i-preserved : goal.loop-i-preserved
 loop-i-preserved c =
     let t = c.args.table in
     let v = c.loop-i in
-    C.stays no_note spent t.items t.count (fit-at-4 c) v.notes.items v.n v.i v.inv (less-at-4 c) past
+    C.stays no_note spent t.items t.count (fit-at-4 c) v.notes.items v.n v.i v.invariant (less-at-4 c) past
     c.no_note-none.result c.no_note-none.ensures c.is_spent.result c.is_spent.ensures c.if-is_spent.false
 
 pub returns : goal.returns

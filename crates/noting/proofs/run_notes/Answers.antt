@@ -64,7 +64,7 @@ module _ (c : goal.After-step-arg-1) where
   well-at-3 =
       let a = c.args in
       let v = c.loop-i in
-      ap ok_values (W.x-is a.t2 a.at a.table a.b fit-at-3 v.notes v.events v.budget v.n v.i v.inv less-at-3 past)
+      ap ok_values (W.x-is a.options a.at a.table a.b fit-at-3 v.notes v.events v.budget v.n v.i v.invariant less-at-3 past)
       ∙ all-below ok_values a.table.items a.table.count v.i past (listed a.table c.requires.0) less-at-3 fit-at-3
   -- its target's option, as the code reads it
 
@@ -94,14 +94,14 @@ module _ (c : goal.Then-not-s) where
   well-at-5 =
       let a = c.args in
       let v = c.loop-i in
-      ap ok_values (W.x-is a.t2 a.at a.table a.b fit-at-5 v.notes v.events v.budget v.n v.i v.inv less-at-5 past)
+      ap ok_values (W.x-is a.options a.at a.table a.b fit-at-5 v.notes v.events v.budget v.n v.i v.invariant less-at-5 past)
       ∙ all-below ok_values a.table.items a.table.count v.i past (listed a.table c.requires.0) less-at-5 fit-at-5
 
   -- its target's option, as the code reads it
-  option_is-at-5 : (k : ℕ) (d : WriteOption) → k ≡ key x-at-5.target → get_or c.args.t2 k d ≡ option_of c.args.t2 x-at-5.target
+  option_is-at-5 : (k : ℕ) (d : WriteOption) → k ≡ key x-at-5.target → get_or c.args.options k d ≡ option_of c.args.options x-at-5.target
   option_is-at-5 k d e =
-      let m : length c.args.t2 ≡ 129 = search (rules, length-told) in
-      ap (λ (j : ℕ). get_or c.args.t2 j d) e ∙ get_d_any c.args.t2 (key x-at-5.target) d new_option (omega arith)
+      let m : length c.args.options ≡ 129 = search (rules, length-told) in
+      ap (λ (j : ℕ). get_or c.args.options j d) e ∙ get_d_any c.args.options (key x-at-5.target) d new_option (omega arith)
 
 -- the list at i, which may be stored
 module _ (c : goal.After-event-1) where
@@ -121,27 +121,27 @@ module _ (c : goal.After-event-1) where
   near-at-6 = omega (arith, less-at-6, few-notes c.args.table c.requires.0)
 
   few-at-6 : c.loop-i.n < 16
-  few-at-6 = omega (arith, near-at-6, c.loop-i.inv.few, c.loop-i.inv.counted)
+  few-at-6 = omega (arith, near-at-6, c.loop-i.invariant.few, c.loop-i.invariant.counted)
 
   well-at-6 : ok_values x-at-6 ≡ true
   well-at-6 =
       let a = c.args in
       let v = c.loop-i in
-      ap ok_values (W.x-is a.t2 a.at a.table a.b fit-at-6 v.notes v.events v.budget v.n v.i v.inv less-at-6 past)
+      ap ok_values (W.x-is a.options a.at a.table a.b fit-at-6 v.notes v.events v.budget v.n v.i v.invariant less-at-6 past)
       ∙ all-below ok_values a.table.items a.table.count v.i past (listed a.table c.requires.0) less-at-6 fit-at-6
 
   -- its target's option, as the code reads it
-  option_is-at-6 : (k : ℕ) (d : WriteOption) → k ≡ key x-at-6.target → get_or c.args.t2 k d ≡ option_of c.args.t2 x-at-6.target
+  option_is-at-6 : (k : ℕ) (d : WriteOption) → k ≡ key x-at-6.target → get_or c.args.options k d ≡ option_of c.args.options x-at-6.target
   option_is-at-6 k d e =
-      let m : length c.args.t2 ≡ 129 = search (rules, length-told) in
-      ap (λ (j : ℕ). get_or c.args.t2 j d) e ∙ get_d_any c.args.t2 (key x-at-6.target) d new_option (omega arith)
+      let m : length c.args.options ≡ 129 = search (rules, length-told) in
+      ap (λ (j : ℕ). get_or c.args.options j d) e ∙ get_d_any c.args.options (key x-at-6.target) d new_option (omega arith)
 
 -- the step's answer
 module _ (c : goal.Then-not-s) where
   sounds : silent (x-at-5 c) ≡ false
   sounds = sym c.is_silent.ensures ∙ c.if-is_silent.false
 
-  own : get_or c.args.t2 c.key_of-k.result new_option ≡ option_of c.args.t2 (x-at-5 c).target
+  own : get_or c.args.options c.key_of-k.result new_option ≡ option_of c.args.options (x-at-5 c).target
   own = option_is-at-5 c _ new_option (c.key_of-k.ensures ∙ ap key (to_z-of_z (fits-target (x-at-5 c) (sound (x-at-5 c) (well-at-5 c)))))
 
 -- the step's answer
@@ -149,11 +149,11 @@ module _ (c : goal.After-event-1) where
   sounds-at-2 : silent (x-at-6 c) ≡ false
   sounds-at-2 = sym c.is_silent.ensures ∙ c.if-is_silent.false
 
-  own-at-2 : get_or c.args.t2 c.key_of-k.result new_option ≡ option_of c.args.t2 (x-at-6 c).target
+  own-at-2 : get_or c.args.options c.key_of-k.result new_option ≡ option_of c.args.options (x-at-6 c).target
   own-at-2 = option_is-at-6 c _ new_option (c.key_of-k.ensures ∙ ap key (to_z-of_z (fits-target (x-at-6 c) (sound (x-at-6 c) (well-at-6 c)))))
 
 pub loop-i-init : goal.loop-i-init
-loop-i-init c = let a = c.args in rw c.zero_event-none.ensures (W.begun a.t2 a.at a.table a.b)
+loop-i-init c = let a = c.args in rw c.zero_event-none.ensures (W.begun a.options a.at a.table a.b)
 
 pub offset_bounds-notes-i : goal.offset_bounds-notes-i
 offset_bounds-notes-i c = omega (arith, near c)
@@ -165,7 +165,7 @@ pub loop-i-preserved-then-is_silent : goal.loop-i-preserved-then-is_silent
 loop-i-preserved-then-is_silent c =
     let a = c.args in
     let v = c.loop-i in
-    W.passed_over a.t2 a.at a.table a.b (fit-at-2 c) v.notes v.events v.budget v.n v.i v.inv (less-at-2 c) past
+    W.passed_over a.options a.at a.table a.b (fit-at-2 c) v.notes v.events v.budget v.n v.i v.invariant (less-at-2 c) past
     (sym c.is_silent.ensures ∙ c.if-is_silent.true)
 
 pub offset_bounds-options-k : goal.offset_bounds-options-k
@@ -188,7 +188,7 @@ pub returns-then-not-s : goal.returns-then-not-s
 returns-then-not-s c =
     let a = c.args in
     let v = c.loop-i in
-    W.lost a.t2 a.at a.table a.b (fit-at-5 c) v.notes v.events v.budget v.n v.i v.inv (less-at-5 c) past
+    W.lost a.options a.at a.table a.b (fit-at-5 c) v.notes v.events v.budget v.n v.i v.invariant (less-at-5 c) past
     (sounds c) c.step-s.result _ c.step-s.ensures (own c) (not-true c.step-s.result.fits c.if-not-s.true)
 
 pub offset_bounds-events-n : goal.offset_bounds-events-n
@@ -210,7 +210,7 @@ pub loop-i-preserved : goal.loop-i-preserved
 loop-i-preserved c =
     let a = c.args in
     let v = c.loop-i in
-    W.wrote a.t2 a.at a.table a.b (fit-at-6 c) v.notes v.events v.budget v.n v.i v.inv (less-at-6 c) past
+    W.wrote a.options a.at a.table a.b (fit-at-6 c) v.notes v.events v.budget v.n v.i v.invariant (less-at-6 c) past
     (sounds-at-2 c) c.step-s.result _ c.step-s.ensures (own-at-2 c) (not-false c.step-s.result.fits c.if-not-s.false) (few-notes a.table c.requires.0)
 
 pub returns : goal.returns
@@ -219,4 +219,4 @@ returns c =
     let v = c.loop-i in
     let m : length a.table.items ≡ 16 = search (rules, length-told) in
     let f = few-notes a.table c.requires.0 in
-    W.ended a.t2 a.at a.table a.b (omega arith) v.notes v.events v.budget v.n v.i v.invariant (search rules)
+    W.ended a.options a.at a.table a.b (omega arith) v.notes v.events v.budget v.n v.i v.invariant (search rules)

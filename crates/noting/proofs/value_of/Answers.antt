@@ -38,6 +38,6 @@ returns c =
     let x = c.args.e in
     let p = c.place_of-p.result in
     let f = sound x c.requires.0 in
-    let g : SFits w32 (get_or x.values.items p (pos 0)) = record { sfits = c.result-1.given } in
+    let g : SFits w32 (get_or x.values.items p (pos 0)) = search rules in
     let b : mag (get_or x.values.items p (pos 0)) ≤ 2 ^ 22 = sized-mag (2 ^ 22) _ (numbers-at x.values p f.numbers (here-at-2 c)) in
     rw (to_z-of_z g) (ap (λ (k : ℕ). get_or x.values.items k (pos 0)) c.place_of-p.ensures, b)

@@ -1,18 +1,19 @@
 -- `write_lists`: the tests in their order (Refusing), then the contract of the run over the table and that of the list, which
 -- for a whole number of records says every number (`determined`).
 use mathlib.Core.Path.{◌≡◌, sym, ap, ◌∙◌}
-use mathlib.Core.Bool.{true, ◌&&◌}
+use mathlib.Core.Bool.{Bool, true, ◌&&◌}
 use Prim.Native.Nat.{ℕ, ◌+◌}
 use native.Mathlib.Omega.{arith}
 use borrow.Author.Rules.{rules}
+use lib.IntN.{ℤ}
 use lib.ListN.{length, take}
 use lib.Seq.{take-append_seam}
 use mir.Syntax.{w32, w64}
-use mir.Val.{SFits}
+use mir.Val.{SFits, to_z, of_z}
 use mir.Facts.{to_z-of_z}
 use Rattle.laws.specs.Lists.{put_first}
 use Rattle.laws.proofs.Ranges.{left, right, inside-mag}
-use Rattle.laws.proofs.Tests.{is_at, both, no, yes}
+use Rattle.laws.proofs.Tests.{is_at, both}
 use Rattle.numbers.specs.Ranges.{is_time, is_channel}
 use Rattle.budget.specs.declared.Budget.{Budget}
 use Rattle.budget.specs.Budgets.{ok_budget}
@@ -28,7 +29,7 @@ use Rattle.state.proofs.Parts.{track-play}
 use Rattle.state.proofs.Play.{play-channel}
 use Rattle.state.proofs.Stored.{stored-notes}
 use Rattle.noting.specs.declared.Played.{Played}
-use Rattle.noting.specs.Runs.{Run, kept, notes_put, played_of}
+use Rattle.noting.specs.Runs.{Run, run, kept, notes_put, played_of}
 use Rattle.noting.specs.Calls.{run_of, with_notes, list_after, answer, noted, list_left}
 use Rattle.noting.specs.Listed.{listed_of}
 use Rattle.noting.proofs.Refusing as R
@@ -59,240 +60,92 @@ module _ (a : Track) (r : Run) (p : Played) (e : p ≡ played_of a.notes r) wher
 same_answer : (a : Track) {n n' : ℕ} {b b' : Budget} {t t' : NoteTable} → n ≡ n' → b ≡ b' → t ≡ t' → answer 0 n b (with_notes a t) ≡ answer 0 n' b' (with_notes a t')
 same_answer a p q r = rw (p, q, r)
 
--- past the first test
-listed : (c : goal.Then-not-is_time-ok) → is_list c.args.events.now c.args.count ≡ true
-listed c = yes c.list_ok.ensures c.if-not-list_ok.false
+-- what the tests and the run say, their numbers read back
+module _ (a : Track) (start : ℤ) (b : Budget) (fit : SFits w64 start) where
+  asked : {x ok z v : Bool} → x ≡ is_time (to_z w64 (of_z w64 start)) → ok ≡ ok_track a → z ≡ ok_budget b → (x && ok && z) ≡ v
+      → (is_time start && ok_track a && ok_budget b) ≡ v
+  asked p q r e = sym (both (both (is_at w64 is_time fit.sfits p) q) r) ∙ e
 
--- past the first test
-listed-at-2 : (c : goal.After-play_notes-r) → is_list c.args.events.now c.args.count ≡ true
-listed-at-2 c = yes c.list_ok.ensures c.if-not-list_ok.false
+  module _ (held : (is_time start && ok_track a && ok_budget b) ≡ true) where
+    timed : is_time start ≡ true
+    timed = left (is_time start) (ok_track a) (left (is_time start && ok_track a) (ok_budget b) held)
 
--- past the first test
-listed-at-3 : (c : goal.Then-events-count) → is_list c.args.events.now c.args.count ≡ true
-listed-at-3 c = yes c.list_ok.ensures c.if-not-list_ok.false
+    tracked : ok_track a ≡ true
+    tracked = right (is_time start) (ok_track a) (left (is_time start && ok_track a) (ok_budget b) held)
 
--- past the first test
-listed-at-4 : (c : goal.After-append_all-arg-1) → is_list c.args.events.now c.args.count ≡ true
-listed-at-4 c = yes c.list_ok.ensures c.if-not-list_ok.false
-
--- past the first test
-listed-at-5 : (c : goal.After-notes-1) → is_list c.args.events.now c.args.count ≡ true
-listed-at-5 c = yes c.list_ok.ensures c.if-not-list_ok.false
-
--- the second
-module _ (c : goal.Then-not-is_time-ok) where
-  list : is_list c.args.events.now c.args.count ≡ true
-  list = listed c
-
-  asked : (c.is_time.result && c.args.ok && c.budget_ok.result)
-      ≡ (is_time c.args.start && ok_track c.args.track && ok_budget c.args.budget)
-  asked =
-      both
-      (both (is_at w64 is_time c.fits.start.sfits c.is_time.ensures) c.requires)
-      c.budget_ok.ensures
-
--- the second
-module _ (c : goal.After-play_notes-r) where
-  list-at-2 : is_list c.args.events.now c.args.count ≡ true
-  list-at-2 = listed-at-2 c
-
--- the second
-module _ (c : goal.Then-events-count) where
-  list-at-3 : is_list c.args.events.now c.args.count ≡ true
-  list-at-3 = listed-at-3 c
-
-  asked-at-3 : (c.is_time.result && c.args.ok && c.budget_ok.result)
-      ≡ (is_time c.args.start && ok_track c.args.track && ok_budget c.args.budget)
-  asked-at-3 =
-      both
-      (both (is_at w64 is_time c.fits.start.sfits c.is_time.ensures) c.requires)
-      c.budget_ok.ensures
-
--- the second
-module _ (c : goal.After-append_all-arg-1) where
-  list-at-4 : is_list c.args.events.now c.args.count ≡ true
-  list-at-4 = listed-at-4 c
-
-  asked-at-4 : (c.is_time.result && c.args.ok && c.budget_ok.result)
-      ≡ (is_time c.args.start && ok_track c.args.track && ok_budget c.args.budget)
-  asked-at-4 =
-      both
-      (both (is_at w64 is_time c.fits.start.sfits c.is_time.ensures) c.requires)
-      c.budget_ok.ensures
-
--- the second
-module _ (c : goal.After-notes-1) where
-  list-at-5 : is_list c.args.events.now c.args.count ≡ true
-  list-at-5 = listed-at-5 c
-
-  asked-at-5 : (c.is_time.result && c.args.ok && c.budget_ok.result)
-      ≡ (is_time c.args.start && ok_track c.args.track && ok_budget c.args.budget)
-  asked-at-5 =
-      both
-      (both (is_at w64 is_time c.fits.start.sfits c.is_time.ensures) c.requires)
-      c.budget_ok.ensures
-
--- the second
-module _ (c : goal.After-struct_told-1) where
-  asked-at-6 : (c.is_time.result && c.args.ok && c.budget_ok.result)
-      ≡ (is_time c.args.start && ok_track c.args.track && ok_budget c.args.budget)
-  asked-at-6 =
-      both
-      (both (is_at w64 is_time c.fits.start.sfits c.is_time.ensures) c.requires)
-      c.budget_ok.ensures
-
--- past it
-module _ (c : goal.After-struct_told-1) where
-  abbrev t : tie.Start
-  t = c
-
-  held : (is_time t.args.start && ok_track t.args.track && ok_budget t.args.budget) ≡ true
-  held = yes (asked-at-6 c) c.if-not-is_time-ok.false
-
-  timed : is_time t.args.start ≡ true
-  timed = left (is_time t.args.start) (ok_track t.args.track) (left (is_time t.args.start && ok_track t.args.track) (ok_budget t.args.budget) held)
-
-  tracked : ok_track t.args.track ≡ true
-  tracked = right (is_time t.args.start) (ok_track t.args.track) (left (is_time t.args.start && ok_track t.args.track) (ok_budget t.args.budget) held)
-
--- past it
-module _ (c : goal.Then-events-count) where
-  abbrev t-at-2 : tie.Start
-  t-at-2 = c
-
-  held-at-2 : (is_time t-at-2.args.start && ok_track t-at-2.args.track && ok_budget t-at-2.args.budget) ≡ true
-  held-at-2 = yes (asked-at-3 c) c.if-not-is_time-ok.false
-
-  tracked-at-2 : ok_track t-at-2.args.track ≡ true
-  tracked-at-2 = right (is_time t-at-2.args.start) (ok_track t-at-2.args.track) (left (is_time t-at-2.args.start && ok_track t-at-2.args.track) (ok_budget t-at-2.args.budget) held-at-2)
-
--- past it
-module _ (c : goal.After-append_all-arg-1) where
-  abbrev t-at-3 : tie.Start
-  t-at-3 = c
-
-  held-at-3 : (is_time t-at-3.args.start && ok_track t-at-3.args.track && ok_budget t-at-3.args.budget) ≡ true
-  held-at-3 = yes (asked-at-4 c) c.if-not-is_time-ok.false
-
-  tracked-at-3 : ok_track t-at-3.args.track ≡ true
-  tracked-at-3 = right (is_time t-at-3.args.start) (ok_track t-at-3.args.track) (left (is_time t-at-3.args.start && ok_track t-at-3.args.track) (ok_budget t-at-3.args.budget) held-at-3)
-
--- past it
-module _ (c : goal.After-notes-1) where
-  abbrev t-at-4 : tie.Start
-  t-at-4 = c
-
-  held-at-4 : (is_time t-at-4.args.start && ok_track t-at-4.args.track && ok_budget t-at-4.args.budget) ≡ true
-  held-at-4 = yes (asked-at-5 c) c.if-not-is_time-ok.false
-
-  tracked-at-4 : ok_track t-at-4.args.track ≡ true
-  tracked-at-4 = right (is_time t-at-4.args.start) (ok_track t-at-4.args.track) (left (is_time t-at-4.args.start && ok_track t-at-4.args.track) (ok_budget t-at-4.args.budget) held-at-4)
-
--- past it
-module _ (c : goal.After-play_notes-r) where
-  abbrev t-at-5 : tie.Start
-  t-at-5 = c
-
--- the run
-module _ (c : goal.After-play_notes-r) where
-  abbrev a : tie.Start
-  a = t-at-5 c
-
--- the run
-module _ (c : goal.Then-events-count) where
-  abbrev a-at-2 : tie.Start
-  a-at-2 = t-at-2 c
-
-  abbrev r-at-2 : Run
-  r-at-2 = run_of a-at-2.args.track a-at-2.args.start a-at-2.args.budget
-
-  told-at-2 : c.play_notes-r.result ≡ played_of a-at-2.args.track.notes r-at-2
-  unfolding run_of
-  told-at-2 = rw (to_z-of_z a-at-2.fits.start, to_z-of_z (fits-channel a-at-2.args.track (tracked-at-2 c))) at c.play_notes-r.ensures
-
-  made-at-2 : c.play_notes-r.result.made ≡ length r-at-2.events
-  made-at-2 = made-is a-at-2.args.track r-at-2 c.play_notes-r.result told-at-2
-
--- the run
-module _ (c : goal.After-append_all-arg-1) where
-  abbrev a-at-3 : tie.Start
-  a-at-3 = t-at-3 c
-
-  abbrev r-at-3 : Run
-  r-at-3 = run_of a-at-3.args.track a-at-3.args.start a-at-3.args.budget
-
-  told-at-3 : c.play_notes-r.result ≡ played_of a-at-3.args.track.notes r-at-3
-  unfolding run_of
-  told-at-3 = rw (to_z-of_z a-at-3.fits.start, to_z-of_z (fits-channel a-at-3.args.track (tracked-at-3 c))) at c.play_notes-r.ensures
-
-  made-at-3 : c.play_notes-r.result.made ≡ length r-at-3.events
-  made-at-3 = made-is a-at-3.args.track r-at-3 c.play_notes-r.result told-at-3
-
--- the run
-module _ (c : goal.After-notes-1) where
-  abbrev a-at-4 : tie.Start
-  a-at-4 = t-at-4 c
-
-  abbrev r-at-4 : Run
-  r-at-4 = run_of a-at-4.args.track a-at-4.args.start a-at-4.args.budget
-
-  told-at-4 : c.play_notes-r.result ≡ played_of a-at-4.args.track.notes r-at-4
-  unfolding run_of
-  told-at-4 = rw (to_z-of_z a-at-4.fits.start, to_z-of_z (fits-channel a-at-4.args.track (tracked-at-4 c))) at c.play_notes-r.ensures
-
-  made-at-4 : c.play_notes-r.result.made ≡ length r-at-4.events
-  made-at-4 = made-is a-at-4.args.track r-at-4 c.play_notes-r.result told-at-4
+    told : {p : Played}
+        → p ≡ played_of a.notes (run a.options (record { start = to_z w64 (of_z w64 start); channel = to_z w32 (of_z w32 a.channel) }) b (take a.notes.count a.notes.items))
+        → p ≡ played_of a.notes (run_of a start b)
+    unfolding run_of
+    told e = rw (to_z-of_z fit, to_z-of_z (fits-channel a tracked)) at e
 
 pub returns-then-not-list_ok : goal.returns-then-not-list_ok
 unfolding noted list_left
 returns-then-not-list_ok c =
-    let s = c.args in
-    let q = R.no-list s.track s.start s.budget s.events.now s.count (no c.list_ok.ensures c.if-not-list_ok.true) in
+    let x = c.args in
+    let q = R.no-list x.track x.start x.budget x.events.now x.count (sym c.list_ok.ensures ∙ c.if-not-list_ok.true) in
     (rw q, rw q)
 
 pub returns-then-not-is_time-ok : goal.returns-then-not-is_time-ok
 unfolding noted list_left
 returns-then-not-is_time-ok c =
     let x = c.args in
-    let q = R.no-numbers x.track x.start x.budget x.events.now x.count (list c) (no (asked c) c.if-not-is_time-ok.true) in
+    let q =
+    R.no-numbers x.track x.start x.budget x.events.now x.count (sym c.list_ok.ensures ∙ c.if-not-list_ok.false)
+    (asked x.track x.start x.budget c.ranges.start c.is_time.ensures c.requires c.budget_ok.ensures c.if-not-is_time-ok.true) in
     (rw q, rw q)
 
 pub play_notes-r-requires : goal.play_notes-r-requires
 play_notes-r-requires c =
-    (stored-notes (t c).args.track (tracked c), rw (to_z-of_z (t c).ranges.start) (timed c))
+    let x = c.args in
+    let held = asked x.track x.start x.budget c.ranges.start c.is_time.ensures c.requires c.budget_ok.ensures c.if-not-is_time-ok.false in
+    (stored-notes x.track (tracked x.track x.start x.budget c.ranges.start held), rw (to_z-of_z c.ranges.start) (timed x.track x.start x.budget c.ranges.start held))
 
 pub overflow_sub-events : goal.overflow_sub-events
-overflow_sub-events c = let x = (a c).args in omega (arith, list-within x.events.now x.count (list-at-2 c), length-rows_of x.events.now)
+overflow_sub-events c =
+    let x = c.args in
+    omega (arith, list-within x.events.now x.count (sym c.list_ok.ensures ∙ c.if-not-list_ok.false), length-rows_of x.events.now)
 
 pub returns-then-events-count : goal.returns-then-events-count
 unfolding noted list_left
 returns-then-events-count c =
-    let x = (a-at-2 c).args in
-    let l = list-at-3 c in
+    let x = c.args in
+    let l = sym c.list_ok.ensures ∙ c.if-not-list_ok.false in
+    let held = asked x.track x.start x.budget c.ranges.start c.is_time.ensures c.requires c.budget_ok.ensures c.if-not-is_time-ok.false in
+    let made = made-is x.track (run_of x.track x.start x.budget) c.play_notes-r.result (told x.track x.start x.budget c.ranges.start held c.play_notes-r.ensures) in
     let taken = c.if-events-count.true in
-    let over = R.lacks-room x.track x.start x.budget x.events.now x.count l (omega (arith, length-rows_of x.events.now, made-at-2 c)) in
-    let q = R.no_room x.track x.start x.budget x.events.now x.count l (held-at-2 c) over in
+    let over = R.lacks-room x.track x.start x.budget x.events.now x.count l (omega (arith, length-rows_of x.events.now, made)) in
+    let q = R.no_room x.track x.start x.budget x.events.now x.count l held over in
     (rw q, rw q)
 
 pub append_all-n-requires : goal.append_all-n-requires
 append_all-n-requires c =
-    let x = (a-at-3 c).args in
-    let few = R.few-events x.track x.start x.budget x.events.now x.count (tracked-at-3 c) in
+    let x = c.args in
+    let l = sym c.list_ok.ensures ∙ c.if-not-list_ok.false in
+    let held = asked x.track x.start x.budget c.ranges.start c.is_time.ensures c.requires c.budget_ok.ensures c.if-not-is_time-ok.false in
+    let made = made-is x.track (run_of x.track x.start x.budget) c.play_notes-r.result (told x.track x.start x.budget c.ranges.start held c.play_notes-r.ensures) in
+    let few = R.few-events x.track x.start x.budget x.events.now x.count (tracked x.track x.start x.budget c.ranges.start held) in
     let left' = c.if-events-count.false in
-    (omega (arith, made-at-3 c, few), omega (arith, made-at-3 c, length-rows_of x.events.now, list-within x.events.now x.count (list-at-4 c)))
+    (omega (arith, made, few), omega (arith, made, length-rows_of x.events.now, list-within x.events.now x.count l))
 
 pub returns : goal.returns
 unfolding noted list_left
 returns c =
     let p = c.append_all-n in
-    let x = (a-at-4 c).args in
-    let l = list-at-5 c in
+    let x = c.args in
+    let r = run_of x.track x.start x.budget in
+    let l = sym c.list_ok.ensures ∙ c.if-not-list_ok.false in
+    let held = asked x.track x.start x.budget c.ranges.start c.is_time.ensures c.requires c.budget_ok.ensures c.if-not-is_time-ok.false in
+    let ran = told x.track x.start x.budget c.ranges.start held c.play_notes-r.ensures in
+    let made = made-is x.track r c.play_notes-r.result ran in
     let left' = c.if-events-count.false in
-    let room = R.has_room x.track x.start x.budget x.events.now x.count l (omega (arith, length-rows_of x.events.now, made-at-4 c)) in
-    let q = R.well x.track x.start x.budget x.events.now x.count l (held-at-4 c) room in
-    let long : p.result ≡ length (list_after (events_of x.events.now x.count) (r-at-4 c)) =
-    p.ensures.0 ∙ ap (λ (k : ℕ). x.count + k) (made-at-4 c) ∙ sym (R.left-long x.track x.start x.budget x.events.now x.count l) in
-    let rows = rw (events-are x.track (r-at-4 c) c.play_notes-r.result (told-at-4 c)) at p.ensures.1 in (
-      rw q (ap listed_of (same_answer x.track long (budget-is x.track (r-at-4 c) c.play_notes-r.result (told-at-4 c)) (notes-is x.track (r-at-4 c) c.play_notes-r.result (told-at-4 c)))),
-      rw q (determined x.events.now p.new.0 (put_first zero_event x.count (list_after (events_of x.events.now x.count) (r-at-4 c)) (rows_of x.events.now)) (list-whole x.events.now x.count l) p.auto.0 rows),
+    let room = R.has_room x.track x.start x.budget x.events.now x.count l (omega (arith, length-rows_of x.events.now, made)) in
+    let q = R.well x.track x.start x.budget x.events.now x.count l held room in
+    let long : p.result ≡ length (list_after (events_of x.events.now x.count) r) =
+    p.ensures.0 ∙ ap (λ (k : ℕ). x.count + k) made ∙ sym (R.left-long x.track x.start x.budget x.events.now x.count l) in
+    let rows = rw (events-are x.track r c.play_notes-r.result ran) at p.ensures.1 in (
+      rw q (ap listed_of (same_answer x.track long (budget-is x.track r c.play_notes-r.result ran) (notes-is x.track r c.play_notes-r.result ran))),
+      rw q
+          (determined x.events.now p.new.events (put_first zero_event x.count (list_after (events_of x.events.now x.count) r) (rows_of x.events.now))
+          (list-whole x.events.now x.count l) p.auto.events rows),
     )

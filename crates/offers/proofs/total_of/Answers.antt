@@ -1,47 +1,36 @@
 -- What is summed and what the triples left last are together the whole.
 use mathlib.Core.Path.{◌≡◌, ap, sym, ◌∙◌}
 use mathlib.Core.List.{List}
-use Prim.Native.Nat.{◌+◌, ◌-◌}
+use Prim.Native.Nat.{ℕ, ◌+◌, ◌/◌, ◌<◌}
 use native.Mathlib.Omega.{arith}
-use lib.ListN.{drop}
+use lib.IntN.{ℤ}
+use lib.ListN.{length, get_or, drop}
 use Rattle.offers.specs.declared.Piece.{Piece}
 use Rattle.offers.specs.Pieces.{total}
-use Rattle.offers.specs.Waves.{triples}
+use Rattle.offers.specs.Waves.{no_piece, triples}
 use Rattle.offers.proofs.Tripling.{length-triples}
 use Rattle.offers.proofs.Taming.{total-le, total-drop, total-end}
 use Rattle.offers.proofs.total_of.Goals as goal
 
-abbrev all : tie.Start invariant-loop decreases-loop → List Piece
-all s = triples s.args.numbers.now
-
 -- one triple more: what is left lasts as much less
-one : (c : goal.After-struct_known-1) → total (drop c.loop-i.i (all c)) ≡ c.triple_at-t.result.len + total (drop (c.loop-i.i + 1) (all c))
-one c =
-    total-drop (all c) c.loop-i.i (omega (arith, length-triples c.args.numbers.now))
-    ∙ ap (λ (t : Piece). t.len + total (drop (c.loop-i.i + 1) (all c))) (sym c.triple_at-t.ensures)
-
-pub loop-i-init : goal.loop-i-init
-loop-i-init c = omega arith
+one : (l : List ℤ) (i : ℕ) (t : Piece) → t ≡ get_or (triples l) i no_piece → i < length l / 3 → total (drop i (triples l)) ≡ t.len + total (drop (i + 1) (triples l))
+one l i t e h =
+    total-drop (triples l) i (omega (arith, length-triples l))
+    ∙ ap (λ (u : Piece). u.len + total (drop (i + 1) (triples l))) (sym e)
 
 pub triple_at-t-requires : goal.triple_at-t-requires
 triple_at-t-requires c = omega (arith, length-triples c.args.numbers.now)
 
 pub overflow_add-sum : goal.overflow_add-sum
 overflow_add-sum c =
-    let p = c.requires in
-    omega (arith, c.loop-i.invariant, one c, total-le (all c) p.tame, p.few)
-
-pub overflow_add-i : goal.overflow_add-i
-overflow_add-i c =
-    omega (arith, c.requires.few, length-triples c.args.numbers.now)
-
-pub loop-i-smaller : goal.loop-i-smaller
-loop-i-smaller c = omega arith
+    let l = c.args.numbers.now in
+    omega (arith, c.loop-i.invariant, one l c.loop-i.i c.triple_at-t.result c.triple_at-t.ensures (omega arith), total-le (triples l) c.requires.tame, c.requires.few)
 
 pub loop-i-preserved : goal.loop-i-preserved
-loop-i-preserved c = omega (arith, c.loop-i.invariant, one c)
+loop-i-preserved c =
+    omega (arith, c.loop-i.invariant, one c.args.numbers.now c.loop-i.i c.triple_at-t.result c.triple_at-t.ensures (omega arith))
 
 pub returns : goal.returns
 returns c =
     let n = length-triples c.args.numbers.now in
-    omega (arith, c.loop-i.invariant, total-end (all c) c.loop-i.i (omega arith))
+    omega (arith, c.loop-i.invariant, total-end (triples c.args.numbers.now) c.loop-i.i (omega arith))

@@ -19,19 +19,19 @@ room-at-3 : (c : goal.After-number_at-2) → c.args.i * 3 + 3 ≤ length c.args.
 room-at-3 c = within c.args.numbers.now c.args.i c.requires
 
 pub overflow_mul-first : goal.overflow_mul-first
-overflow_mul-first c = omega (arith, room c, c.well-formed.0)
+overflow_mul-first c = omega (arith, room c, c.well_formed.0)
 
 pub number_at-requires : goal.number_at-requires
 number_at-requires c = omega (arith, room c)
 
 pub overflow_add-first : goal.overflow_add-first
-overflow_add-first c = omega (arith, room-at-2 c, c.well-formed.0)
+overflow_add-first c = omega (arith, room-at-2 c, c.well_formed.0)
 
 pub number_at-requires-2 : goal.number_at-requires-2
 number_at-requires-2 c = omega (arith, room-at-2 c)
 
 pub overflow_add-first-2 : goal.overflow_add-first-2
-overflow_add-first-2 c = omega (arith, room-at-3 c, c.well-formed.0)
+overflow_add-first-2 c = omega (arith, room-at-3 c, c.well_formed.0)
 
 pub number_at-requires-3 : goal.number_at-requires-3
 number_at-requires-3 c = omega (arith, room-at-3 c)
@@ -42,11 +42,11 @@ returns c =
     let high = c.number_at-2 in
     let low = c.number_at in
     rw (
-      to_z-of_z {w = w64} {z = low.result} (sfits_of low.type-inv),
+      to_z-of_z {w = w64} {z = low.result} (sfits_of low.type_inv),
       low.ensures,
-      to_z-of_z {w = w64} {z = high.result} (sfits_of high.type-inv),
+      to_z-of_z {w = w64} {z = high.result} (sfits_of high.type_inv),
       high.ensures,
       c.length_of.ensures,
-      to_z-of_z {w = w64} (sfits_of len.type-inv),
+      to_z-of_z {w = w64} (sfits_of len.type_inv),
       len.ensures,
     ) (sym (triple-is c.args.numbers.now c.args.i c.requires))

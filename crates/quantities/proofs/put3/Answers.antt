@@ -12,4 +12,4 @@ returns c =
     let g = c.group.ensures in
     let b = c.put_byte-p.ensures in
     let p = c.put2.ensures in
-    put-behind a.at a.out.now (followed (group 16384 a.q) ∷ []) (lowest2 a.q) (omega (arith, c.requires)) (rw g.0 at b.0) b.1 p.0 p.1
+    put-behind a.at a.out.now (followed (group 16384 a.q) ∷ []) (lowest2 a.q) (omega (arith, c.requires)) (rw g.value at b.0) b.1 p.0 p.1

@@ -39,13 +39,13 @@ returns-then-b-lt-TWO c =
     let s = c.args in
     let w = c.wide-b.ensures.value in
     let k : suc (3 - l.used) ≡ quantity_bytes - l.used = omega arith in
-    let v = small l.used l.value (search rules) l.invariant.1 in (
-      ap (λ (x : ℕ). met (l.value * 128 + x) (l.used + 1)) w
+    let v = small l.used l.value (search rules) l.invariant.1 in record {
+      value = ap (λ (x : ℕ). met (l.value * 128 + x) (l.used + 1)) w
           ∙ sym (at_last s.s.now (s.at + l.used) l.value l.used (3 - l.used) (search rules) (rw w at c.if-b-lt-TWO.true))
           ∙ ap (λ (n : ℕ). quantity_from n l.value l.used (drop (s.at + l.used) s.s.now)) k
-          ∙ l.invariant.2,
-      omega arith,
-    )
+          ∙ l.invariant.2;
+      value_lt_quantity_top = omega arith;
+    }
 
 pub overflow_mul-value : goal.overflow_mul-value
 overflow_mul-value c =
@@ -70,8 +70,8 @@ loop-used-preserved c =
     let p : s.at + (l.used + 1) ≡ suc (s.at + l.used) = omega arith in (
       omega arith,
       grows l.used l.value (c.wide-b.result - 128) l.invariant.1 (omega arith),
-      rw (n, p, w.0)
-          (sym (at_more s.s.now (s.at + l.used) l.value l.used (3 - l.used) (search rules) (rw w.0 at c.if-b-lt-TWO.false))
+      rw (n, p, w.value)
+          (sym (at_more s.s.now (s.at + l.used) l.value l.used (3 - l.used) (search rules) (rw w.value at c.if-b-lt-TWO.false))
           ∙ ap (λ (n : ℕ). quantity_from n l.value l.used (drop (s.at + l.used) s.s.now)) k
           ∙ l.invariant.2),
     )

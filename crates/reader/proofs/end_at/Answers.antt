@@ -23,16 +23,16 @@ module _ (c : goal.After-struct_known-4-1) where
   left-at-2 = length-drop p-at-2 c.args.s.now
 
 pub returns-then-not-n : goal.returns-then-not-n
-returns-then-not-n c = let both = answered c.faulty.result c.faulty.ensures (λ t. end_none _ _ _ _ c.quantity_at-n.ensures.value (no refl c.if-not-n.true)) in record { at_each_time = both.0; gap_lt_quantity_top = both.1 }
+returns-then-not-n c = answered c.faulty.result c.faulty.ensures (λ t. end_none _ _ _ _ c.quantity_at-n.ensures.value (no refl c.if-not-n.true))
 
 pub returns-then-n-ne0 : goal.returns-then-n-ne0
 returns-then-n-ne0 c =
-    let both = answered c.faulty-then-n-ne0.result c.faulty-then-n-ne0.ensures (λ t. end-long _ _ _ _ c.quantity_at-n.ensures.value c.if-n-ne0.true) in record { at_each_time = both.0; gap_lt_quantity_top = both.1 }
+    answered c.faulty-then-n-ne0.result c.faulty-then-n-ne0.ensures (λ t. end-long _ _ _ _ c.quantity_at-n.ensures.value c.if-n-ne0.true)
 
 pub returns-then-n-s : goal.returns-then-n-s
 returns-then-n-s c =
-    let both = answered c.faulty-then-n-s.result c.faulty-then-n-s.ensures
-    (λ t. end-behind _ _ _ _ c.quantity_at-n.ensures.value (yes refl c.if-not-n.false) c.if-n-ne0.false (λ e. c.if-n-s.true (e ∙ left c))) in record { at_each_time = both.0; gap_lt_quantity_top = both.1 }
+    answered c.faulty-then-n-s.result c.faulty-then-n-s.ensures
+    (λ t. end-behind _ _ _ _ c.quantity_at-n.ensures.value (yes refl c.if-not-n.false) c.if-n-ne0.false (λ e. c.if-n-s.true (e ∙ left c)))
 
 pub returns : goal.returns
 unfolding tells

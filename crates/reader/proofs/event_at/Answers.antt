@@ -43,14 +43,14 @@ module _ (c : goal.After-status_at) where
 pub returns-then-s-from : goal.returns-then-s-from
 returns-then-s-from c =
     let a = c.args in
-    let both = answered c.faulty.result c.faulty.ensures
-    (λ t. seen_nothing kept_in a.running t (drop a.from a.s.now) (omega (arith, length-drop a.from a.s.now, c.if-s-from.true))) in record { at_each_time = both.0; gap_lt_quantity_top = both.1 }
+    answered c.faulty.result c.faulty.ensures
+    (λ t. seen_nothing kept_in a.running t (drop a.from a.s.now) (omega (arith, length-drop a.from a.s.now, c.if-s-from.true)))
 
 pub returns-then-not-n : goal.returns-then-not-n
 returns-then-not-n c =
     let a = c.args in
-    let both = answered c.faulty-then-not-n.result c.faulty-then-not-n.ensures
-    (λ t. seen-no-gap kept_in a.running t (l c) (some c) c.quantity_at-n.result c.quantity_at-n.ensures.value (no refl c.if-not-n.true)) in record { at_each_time = both.0; gap_lt_quantity_top = both.1 }
+    answered c.faulty-then-not-n.result c.faulty-then-not-n.ensures
+    (λ t. seen-no-gap kept_in a.running t (l c) (some c) c.quantity_at-n.result c.quantity_at-n.ensures.value (no refl c.if-not-n.true))
 
 pub status_at-requires : goal.status_at-requires
 status_at-requires c = (within-at-2 c c.if-not-n.false, c.quantity_at-n.ensures.value_lt_quantity_top)
@@ -59,7 +59,7 @@ pub returns : goal.returns
 returns c =
     let a = c.args in
     let n = c.quantity_at-n.result in
-    let both = answered c.status_at.result c.status_at.ensures
+    answered c.status_at.result c.status_at.ensures
     (λ t.
     ap (status_in kept_in a.running (t + n.value) n.value n.used) (sym (drop-drop n.used a.from a.s.now))
-    ∙ seen-behind kept_in a.running t (l-at-3 c) (some-at-3 c) n c.quantity_at-n.ensures.value (yes refl c.if-not-n.false)) in record { at_each_time = both.0; gap_lt_quantity_top = both.1 }
+    ∙ seen-behind kept_in a.running t (l-at-3 c) (some-at-3 c) n c.quantity_at-n.ensures.value (yes refl c.if-not-n.false))

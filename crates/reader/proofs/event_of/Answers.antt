@@ -26,6 +26,6 @@ returns-in-12 c =
 pub returns-in_default : goal.returns-in_default
 returns-in_default c =
     let a = c.args in
-    let r = c.in_default-own.rest in
+    let r = c.in_default.in_default-own.rest in
     rw (c.plain-in_default.ensures, c.joined.ensures.0)
     (tells-bend a.f.status a.time a.f.first a.f.second r.0.0.0.1 r.0.0.1 r.0.1 r.1)

@@ -63,24 +63,24 @@ module _ (c : goal.After-second_at) where
 pub returns-then-s-at : goal.returns-then-s-at
 returns-then-s-at c =
     let a = c.args in
-    let both = answered c.faulty.result c.faulty.ensures
-    (λ t. message-cut kept_in a.status (t + a.gap) a.gap a.used ∙ ap (says c t) (sym (none_left a.s.now a.from a.used c.if-s-at.true))) in record { at_each_time = both.0; gap_lt_quantity_top = both.1 }
+    answered c.faulty.result c.faulty.ensures
+    (λ t. message-cut kept_in a.status (t + a.gap) a.gap a.used ∙ ap (says c t) (sym (none_left a.s.now a.from a.used c.if-s-at.true)))
 
 pub returns-then-first-ge-STATUS : goal.returns-then-first-ge-STATUS
 returns-then-first-ge-STATUS c =
     let a = c.args in
-    let both = answered c.faulty-then-first-ge-STATUS.result c.faulty-then-first-ge-STATUS.ensures
-    (λ t. message-high kept_in a.status (t + a.gap) a.gap a.used (x c) (l c) c.if-first-ge-STATUS.true ∙ ap (says-at-2 c t) (sym (byte c))) in record { at_each_time = both.0; gap_lt_quantity_top = both.1 }
+    answered c.faulty-then-first-ge-STATUS.result c.faulty-then-first-ge-STATUS.ensures
+    (λ t. message-high kept_in a.status (t + a.gap) a.gap a.used (x c) (l c) c.if-first-ge-STATUS.true ∙ ap (says-at-2 c t) (sym (byte c)))
 
 pub returns-then-is_single : goal.returns-then-is_single
 unfolding tells
 returns-then-is_single c =
     let a = c.args in
     rw c.sent.ensures
-    ((λ t. message-one kept_in a.status (t + a.gap) a.gap a.used (x-at-2 c) (l-at-2 c) c.if-first-ge-STATUS.false (sym c.is_single.ensures ∙ c.if-is_single.true) ∙ ap (says-at-3 c t) (sym (byte-at-2 c))), c.requires.1)
+    record { at_each_time = λ t. message-one kept_in a.status (t + a.gap) a.gap a.used (x-at-2 c) (l-at-2 c) c.if-first-ge-STATUS.false (sym c.is_single.ensures ∙ c.if-is_single.true) ∙ ap (says-at-3 c t) (sym (byte-at-2 c)); gap_lt_quantity_top = c.requires.1 }
 
 pub returns : goal.returns
 returns c =
     let a = c.args in
-    let both = answered c.second_at.result c.second_at.ensures
-    (λ t. message-two kept_in a.status (t + a.gap) a.gap a.used (x-at-3 c) (l-at-3 c) c.if-first-ge-STATUS.false (sym c.is_single.ensures ∙ c.if-is_single.false) ∙ ap (says-at-4 c t) (sym (byte-at-3 c))) in record { at_each_time = both.0; gap_lt_quantity_top = both.1 }
+    answered c.second_at.result c.second_at.ensures
+    (λ t. message-two kept_in a.status (t + a.gap) a.gap a.used (x-at-3 c) (l-at-3 c) c.if-first-ge-STATUS.false (sym c.is_single.ensures ∙ c.if-is_single.false) ∙ ap (says-at-4 c t) (sym (byte-at-3 c)))

@@ -44,21 +44,21 @@ module _ (c : goal.After-step_over) where
 pub returns-then-s-at : goal.returns-then-s-at
 returns-then-s-at c =
     let a = c.args in
-    let both = answered c.faulty.result c.faulty.ensures
-    (λ t. meta-cut a.gap a.used ∙ ap (meta_in a.gap a.used) (sym (none_left a.s.now a.from a.used c.if-s-at.true))) in record { at_each_time = both.0; gap_lt_quantity_top = both.1 }
+    answered c.faulty.result c.faulty.ensures
+    (λ t. meta-cut a.gap a.used ∙ ap (meta_in a.gap a.used) (sym (none_left a.s.now a.from a.used c.if-s-at.true)))
 
 pub returns-then-kind-ge-STATUS : goal.returns-then-kind-ge-STATUS
 returns-then-kind-ge-STATUS c =
     let a = c.args in
-    let both = answered c.faulty-then-kind-ge-STATUS.result c.faulty-then-kind-ge-STATUS.ensures (λ t. meta-high a.gap a.used (x c) (l c) c.if-kind-ge-STATUS.true ∙ ap (meta_in a.gap a.used) (sym (byte c))) in record { at_each_time = both.0; gap_lt_quantity_top = both.1 }
+    answered c.faulty-then-kind-ge-STATUS.result c.faulty-then-kind-ge-STATUS.ensures (λ t. meta-high a.gap a.used (x c) (l c) c.if-kind-ge-STATUS.true ∙ ap (meta_in a.gap a.used) (sym (byte c)))
 
 pub returns-then-kind-eq-END_OF_TRACK : goal.returns-then-kind-eq-END_OF_TRACK
 returns-then-kind-eq-END_OF_TRACK c =
     let a = c.args in
-    let both = answered c.end_at.result c.end_at.ensures (λ t. meta-end a.gap a.used (x-at-2 c) (l-at-2 c) c.if-kind-eq-END_OF_TRACK.true ∙ ap (meta_in a.gap a.used) (sym (byte-at-2 c))) in record { at_each_time = both.0; gap_lt_quantity_top = both.1 }
+    answered c.end_at.result c.end_at.ensures (λ t. meta-end a.gap a.used (x-at-2 c) (l-at-2 c) c.if-kind-eq-END_OF_TRACK.true ∙ ap (meta_in a.gap a.used) (sym (byte-at-2 c)))
 
 pub returns : goal.returns
 returns c =
     let a = c.args in
-    let both = answered c.step_over.result c.step_over.ensures
-    (λ t. meta-over a.gap a.used (x-at-3 c) (l-at-3 c) c.if-kind-ge-STATUS.false c.if-kind-eq-END_OF_TRACK.false ∙ ap (meta_in a.gap a.used) (sym (byte-at-3 c))) in record { at_each_time = both.0; gap_lt_quantity_top = both.1 }
+    answered c.step_over.result c.step_over.ensures
+    (λ t. meta-over a.gap a.used (x-at-3 c) (l-at-3 c) c.if-kind-ge-STATUS.false c.if-kind-eq-END_OF_TRACK.false ∙ ap (meta_in a.gap a.used) (sym (byte-at-3 c)))

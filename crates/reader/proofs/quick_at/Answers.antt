@@ -69,8 +69,8 @@ returns-then-gap-ge-STATUS c = record { at_each_time = unknown c.faulty-then-gap
 
 pub returns-then-x-lt-STATUS : goal.returns-then-x-lt-STATUS
 returns-then-x-lt-STATUS c =
-    let r = c.args.running in (
-      λ z.
+    let r = c.args.running in record {
+      at_each_time = λ z.
           let q = c.quick_second.ensures.double z in
           let d = q.0 in (
             q.1,
@@ -79,9 +79,9 @@ returns-then-x-lt-STATUS c =
                 ∙ message-two kept_in r (t + g c) (g c) 1 (x c) (drop (p c + 2) (b c)) c.if-x-lt-STATUS.true d.double
                 ∙ runs kept_in r (t + g c) (g c) 1 (x c) (drop (p c + 2) (b c)) c.if-x-lt-STATUS.true (λ (h : r ≡ 0). absurd (omega (arith, h, d.low)))
                 ∙ behind-gap c t,
-          ),
-      c.quick_second.ensures.gap_lt_quantity_top,
-    )
+          );
+      gap_lt_quantity_top = c.quick_second.ensures.gap_lt_quantity_top;
+    }
 
 pub returns-then-first-ge-STATUS : goal.returns-then-first-ge-STATUS
 returns-then-first-ge-STATUS c = record { at_each_time = unknown c.faulty-then-first-ge-STATUS.result 1 c.faulty-then-first-ge-STATUS.ensures; gap_lt_quantity_top = c.faulty-then-first-ge-STATUS.ensures.gap_lt_quantity_top }
@@ -92,8 +92,8 @@ overflow_cast-x c = omega (arith, c.shared_slice_known-2-1.given (p-at-2 c + 1))
 pub returns : goal.returns
 returns c =
     let r = c.args.running in
-    let a = get_or (b-at-3 c) (p-at-3 c + 2) 0 in (
-      λ z.
+    let a = get_or (b-at-3 c) (p-at-3 c + 2) 0 in record {
+      at_each_time = λ z.
           let q = c.quick_second-2.ensures.double z in
           let d = q.0 in (
             q.1,
@@ -103,6 +103,6 @@ returns c =
                 ∙ ap (message_in kept_in (x-at-3 c) (t + g-at-3 c) (g-at-3 c) 2) (sym (byte_left (b-at-3 c) (p-at-3 c) 2 (omega (arith, four-at-3 c))))
                 ∙ sends kept_in r (t + g-at-3 c) (g-at-3 c) 1 (x-at-3 c) (drop (p-at-3 c + 2) (b-at-3 c)) d.low d.high
                 ∙ behind-gap-at-3 c t,
-          ),
-      c.quick_second-2.ensures.gap_lt_quantity_top,
-    )
+          );
+      gap_lt_quantity_top = c.quick_second-2.ensures.gap_lt_quantity_top;
+    }

@@ -22,14 +22,14 @@ returns c =
     let a = c.args in
     let x = get_or a.s.now (a.from + a.used) 0 in
     let l = drop (a.from + (a.used + 1)) a.s.now in
-    let double = c.is_double.ensures (yes refl c.if-not-is_double.false) in
-    rw c.sent.ensures (
-      (λ z. (
+    let double = c.is_double.ensures c.if-not-is_double.false in
+    rw c.sent.ensures record {
+      double = λ z. (
         double,
         (λ t. double.counts (t + a.gap) a.first x),
         (λ t.
             second-well kept_in a.status (t + a.gap) a.gap a.used a.first x l c.if-second-ge-STATUS.false
             ∙ ap (second_in kept_in a.status (t + a.gap) a.gap a.used a.first) (sym (byte_left a.s.now a.from a.used c.requires.0))),
-      )),
-      c.requires.1,
-    )
+      );
+      gap_lt_quantity_top = c.requires.1;
+    }

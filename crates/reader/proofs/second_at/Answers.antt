@@ -48,18 +48,18 @@ module _ (c : goal.After-sent) where
 pub returns-then-s-at : goal.returns-then-s-at
 returns-then-s-at c =
     let a = c.args in
-    let both = answered c.faulty.result c.faulty.ensures
-    (λ t. second-cut kept_in a.status (t + a.gap) a.gap a.used a.first ∙ ap (says c t) (sym (none_left a.s.now a.from a.used c.if-s-at.true))) in record { at_each_time = both.0; gap_lt_quantity_top = both.1 }
+    answered c.faulty.result c.faulty.ensures
+    (λ t. second-cut kept_in a.status (t + a.gap) a.gap a.used a.first ∙ ap (says c t) (sym (none_left a.s.now a.from a.used c.if-s-at.true)))
 
 pub returns-then-second-ge-STATUS : goal.returns-then-second-ge-STATUS
 returns-then-second-ge-STATUS c =
     let a = c.args in
-    let both = answered c.faulty-then-second-ge-STATUS.result c.faulty-then-second-ge-STATUS.ensures
-    (λ t. second-high kept_in a.status (t + a.gap) a.gap a.used a.first (x c) (l c) c.if-second-ge-STATUS.true ∙ ap (says-at-2 c t) (sym (byte c))) in record { at_each_time = both.0; gap_lt_quantity_top = both.1 }
+    answered c.faulty-then-second-ge-STATUS.result c.faulty-then-second-ge-STATUS.ensures
+    (λ t. second-high kept_in a.status (t + a.gap) a.gap a.used a.first (x c) (l c) c.if-second-ge-STATUS.true ∙ ap (says-at-2 c t) (sym (byte c)))
 
 pub returns : goal.returns
 unfolding tells
 returns c =
     let a = c.args in
     rw c.sent.ensures
-    ((λ t. second-well kept_in a.status (t + a.gap) a.gap a.used a.first (x-at-2 c) (l-at-2 c) c.if-second-ge-STATUS.false ∙ ap (says-at-3 c t) (sym (byte-at-2 c))), c.requires.1)
+    record { at_each_time = λ t. second-well kept_in a.status (t + a.gap) a.gap a.used a.first (x-at-2 c) (l-at-2 c) c.if-second-ge-STATUS.false ∙ ap (says-at-3 c t) (sym (byte-at-2 c)); gap_lt_quantity_top = c.requires.1 }

@@ -107,44 +107,44 @@ module _ (c : goal.After-faulty-2) where
 pub returns-then-s-at : goal.returns-then-s-at
 returns-then-s-at c =
     let a = c.args in
-    let both = answered c.faulty.result c.faulty.ensures
-    (λ t. status-cut kept_in a.running (t + a.gap) a.gap a.used ∙ ap (says c t) (sym (none_left a.s.now a.from a.used c.if-s-at.true))) in record { at_each_time = both.0; gap_lt_quantity_top = both.1 }
+    answered c.faulty.result c.faulty.ensures
+    (λ t. status-cut kept_in a.running (t + a.gap) a.gap a.used ∙ ap (says c t) (sym (none_left a.s.now a.from a.used c.if-s-at.true)))
 
 pub returns-then-running-eq0 : goal.returns-then-running-eq0
 returns-then-running-eq0 c =
     let a = c.args in
-    let both = answered c.faulty-then-running-eq0.result c.faulty-then-running-eq0.ensures
-    (λ t. no-running kept_in a.running (t + a.gap) a.gap a.used (x c) (l c) c.if-x-lt-STATUS.true c.if-running-eq0.true ∙ ap (says-at-2 c t) (sym (byte c))) in record { at_each_time = both.0; gap_lt_quantity_top = both.1 }
+    answered c.faulty-then-running-eq0.result c.faulty-then-running-eq0.ensures
+    (λ t. no-running kept_in a.running (t + a.gap) a.gap a.used (x c) (l c) c.if-x-lt-STATUS.true c.if-running-eq0.true ∙ ap (says-at-2 c t) (sym (byte c)))
 
 pub returns-then-x-lt-STATUS : goal.returns-then-x-lt-STATUS
 returns-then-x-lt-STATUS c =
     let a = c.args in
-    let both = answered c.message_at.result c.message_at.ensures
+    answered c.message_at.result c.message_at.ensures
     (λ t.
     ap (message_in kept_in a.running (t + a.gap) a.gap a.used) (byte-at-2 c)
     ∙ runs kept_in a.running (t + a.gap) a.gap a.used (x-at-2 c) (l-at-2 c) c.if-x-lt-STATUS.true c.if-running-eq0.false
-    ∙ ap (says-at-3 c t) (sym (byte-at-2 c))) in record { at_each_time = both.0; gap_lt_quantity_top = both.1 }
+    ∙ ap (says-at-3 c t) (sym (byte-at-2 c)))
 
 pub returns-then-x-lt-SYSTEM : goal.returns-then-x-lt-SYSTEM
 returns-then-x-lt-SYSTEM c =
     let a = c.args in
-    let both = answered c.message_at-then-x-lt-SYSTEM.result c.message_at-then-x-lt-SYSTEM.ensures
-    (λ t. sends kept_in a.running (t + a.gap) a.gap a.used (x-at-3 c) (l-at-3 c) c.if-x-lt-STATUS.false c.if-x-lt-SYSTEM.true ∙ ap (says-at-4 c t) (sym (byte-at-3 c))) in record { at_each_time = both.0; gap_lt_quantity_top = both.1 }
+    answered c.message_at-then-x-lt-SYSTEM.result c.message_at-then-x-lt-SYSTEM.ensures
+    (λ t. sends kept_in a.running (t + a.gap) a.gap a.used (x-at-3 c) (l-at-3 c) c.if-x-lt-STATUS.false c.if-x-lt-SYSTEM.true ∙ ap (says-at-4 c t) (sym (byte-at-3 c)))
 
 pub returns-then-x : goal.returns-then-x
 returns-then-x c =
     let a = c.args in
-    let both = answered c.meta_at.result c.meta_at.ensures
-    (λ t. meta-met kept_in a.running (t + a.gap) a.gap a.used (x-at-4 c) (l-at-4 c) c.if-x.true ∙ ap (says-at-5 c t) (sym (byte-at-4 c))) in record { at_each_time = both.0; gap_lt_quantity_top = both.1 }
+    answered c.meta_at.result c.meta_at.ensures
+    (λ t. meta-met kept_in a.running (t + a.gap) a.gap a.used (x-at-4 c) (l-at-4 c) c.if-x.true ∙ ap (says-at-5 c t) (sym (byte-at-4 c)))
 
 pub returns-then-x-2 : goal.returns-then-x-2
 returns-then-x-2 c =
     let a = c.args in
-    let both = answered c.step_over.result c.step_over.ensures
-    (λ t. over-met kept_in a.running (t + a.gap) a.gap a.used (x-at-5 c) (l-at-5 c) c.if-x-lt-SYSTEM.false c.if-x.false c.if-x-2.true ∙ ap (says-at-6 c t) (sym (byte-at-5 c))) in record { at_each_time = both.0; gap_lt_quantity_top = both.1 }
+    answered c.step_over.result c.step_over.ensures
+    (λ t. over-met kept_in a.running (t + a.gap) a.gap a.used (x-at-5 c) (l-at-5 c) c.if-x-lt-SYSTEM.false c.if-x.false c.if-x-2.true ∙ ap (says-at-6 c t) (sym (byte-at-5 c)))
 
 pub returns : goal.returns
 returns c =
     let a = c.args in
-    let both = answered c.faulty-2.result c.faulty-2.ensures
-    (λ t. no-status kept_in a.running (t + a.gap) a.gap a.used (x-at-6 c) (l-at-6 c) c.if-x-lt-SYSTEM.false c.if-x.false c.if-x-2.false ∙ ap (says-at-7 c t) (sym (byte-at-6 c))) in record { at_each_time = both.0; gap_lt_quantity_top = both.1 }
+    answered c.faulty-2.result c.faulty-2.ensures
+    (λ t. no-status kept_in a.running (t + a.gap) a.gap a.used (x-at-6 c) (l-at-6 c) c.if-x-lt-SYSTEM.false c.if-x.false c.if-x-2.false ∙ ap (says-at-7 c t) (sym (byte-at-6 c)))

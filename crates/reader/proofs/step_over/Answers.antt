@@ -33,7 +33,7 @@ module _ (c : goal.Else-s-at) where
   left-at-3 = length-drop p-at-3 c.args.s.now
 
 pub returns-then-not-n : goal.returns-then-not-n
-returns-then-not-n c = let both = answered c.faulty.result c.faulty.ensures (λ t. over_none _ _ _ _ c.quantity_at-n.ensures.value (no refl c.if-not-n.true)) in record { at_each_time = both.0; gap_lt_quantity_top = both.1 }
+returns-then-not-n c = answered c.faulty.result c.faulty.ensures (λ t. over_none _ _ _ _ c.quantity_at-n.ensures.value (no refl c.if-not-n.true))
 
 pub overflow_add-bytes : goal.overflow_add-bytes
 overflow_add-bytes c =
@@ -43,7 +43,7 @@ overflow_add-bytes c =
 
 pub returns-then-s-at : goal.returns-then-s-at
 returns-then-s-at c =
-    let both = answered c.faulty-then-s-at.result c.faulty-then-s-at.ensures (λ t. over-short _ _ _ _ c.quantity_at-n.ensures.value (omega (arith, left-at-2 c, c.if-s-at.true))) in record { at_each_time = both.0; gap_lt_quantity_top = both.1 }
+    answered c.faulty-then-s-at.result c.faulty-then-s-at.ensures (λ t. over-short _ _ _ _ c.quantity_at-n.ensures.value (omega (arith, left-at-2 c, c.if-s-at.true)))
 
 pub returns : goal.returns
 unfolding tells

@@ -1,5 +1,5 @@
 -- The float that the code computes is the definition's (`is`), so its bound (`curve-within`) allows the cut, and that of the value is the law `curve-mag`.
-use Rattle.std.proofs.Common.{◌≡◌, ◌+◌, ◌^◌, ◌≤◌, ◌-ℤ◌, nat_abs, sym, refl, ap, ◌∙◌, subst, arith, to_z-of_z, w64, SFits, rules}
+use Rattle.std.proofs.Common.{◌≡◌, ◌+◌, ◌^◌, ◌≤◌, ◌-ℤ◌, nat_abs, sym, ap, ◌∙◌, subst, arith, to_z-of_z, w64, SFits}
 use borrow.Author.Rules.{sfits_of}
 use lib.Ieee.{Float, of_int, to_signed, add, mul, div, binary32}
 use Rattle.laws.proofs.Signed.{mag-sub, sub_back}
@@ -69,4 +69,5 @@ unfolding curve_of
 returns c =
     let e : c.cut.result ≡ curve_of c.args.low c.args.high c.args.j c.args.len = c.cut.ensures ∙ ap (to_signed 63) (is-at-2 c) in
     let m = curve-mag c.args.low c.args.high c.args.j c.args.len (space-at-3 c) (omega arith) (omega arith) (omega arith) in
-    rw (to_z-of_z {w = w64} (sfits_of c.cut.type_inv), e) (refl, omega (arith, space-at-3 c))
+    let b = to_z-of_z {w = w64} (sfits_of c.cut.type_inv) in
+    record { value = b ∙ e; result_bound = rw (b, e) (omega (arith, space-at-3 c)) }

@@ -1,5 +1,5 @@
 -- The cast from 64 to 32 bits keeps the number, which the contract says to fit.
-use Rattle.std.proofs.Common.{ap, ◌∙◌, w32, w64, rules}
+use Rattle.std.proofs.Common.{ap, ◌∙◌, w32, w64}
 use borrow.Author.Rules.{sfits_of}
 use lib.Ieee.{of_int, binary32}
 use Rattle.laws.proofs.Signed.{narrow_back}

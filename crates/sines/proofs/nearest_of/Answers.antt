@@ -1,6 +1,5 @@
 -- The quotient of the definition; its size is the law `nearest-le`.
 use mathlib.Core.Path.{refl}
-use borrow.Author.Rules.{rules}
 use Rattle.sines.proofs.Line.{nearest-le}
 use Rattle.sines.proofs.nearest_of.Goals as goal
 

@@ -2,7 +2,6 @@
 use Prim.Native.Nat.{◌+◌, ◌*◌, ◌-◌, ◌%◌, ◌≤◌}
 use native.Mathlib.Nat.{le_of_lt, mod-lt, mul-le-mul_right}
 use native.Mathlib.Omega.{arith}
-use borrow.Author.Rules.{rules}
 use Rattle.sines.specs.Table.{top}
 use Rattle.sines.proofs.Line.{place, place-next, on-entry, between, line-le}
 use Rattle.sines.proofs.sin_at.Goals as goal
@@ -11,11 +10,11 @@ module _ (c : goal.After-entry_at-b) where
   rest_le : let s = c.args in s.q * 1024 % s.len ≤ s.len
   rest_le = le_of_lt (mod-lt (c.args.q * 1024) c.requires.0)
 
-  sum-le : let c = c.args in
-      c.entry_at-a.result * (c.len - c.q * 1024 % c.len) + c.entry_at-b.result * (c.q * 1024 % c.len) ≤ top * c.len
+  sum-le : let s = c.args in
+      c.entry_at-a.result * (s.len - s.q * 1024 % s.len) + c.entry_at-b.result * (s.q * 1024 % s.len) ≤ top * s.len
   sum-le =
-      let c = c.args in
-      line-le c.entry_at-a.result c.entry_at-b.result (c.q * 1024 % c.len) c.len c.entry_at-a.ensures.1
+      let s = c.args in
+      line-le c.entry_at-a.result c.entry_at-b.result (s.q * 1024 % s.len) s.len c.entry_at-a.ensures.1
       c.entry_at-b.ensures.1 rest_le
 
 pub overflow_mul-x : goal.overflow_mul-x

@@ -1,5 +1,5 @@
 -- `tables::cycles_ok`: the records so far may be stored (laws, Tests).
-use mathlib.Core.Path.{◌≡◌, refl}
+use mathlib.Core.Path.{◌≡◌, refl, sym, ◌∙◌}
 use Prim.Native.Nat.{◌-◌, ◌≤◌}
 use borrow.Author.Rules.{rules}
 use lib.ListN.{take, length}
@@ -19,22 +19,22 @@ loop-i-init c = (search rules, refl)
 pub returns-then-not-cycle_ok : goal.returns-then-not-cycle_ok
 unfolding ok_cycles
 returns-then-not-cycle_ok c =
-    let t = c.args.t1 in
+    let t = c.args.table in
     let e : length t.items ≡ 16 = search (rules, length-told) in
     counted-no ok_cycle t.count 16 t.items c.loop-i.i _ (search rules) e (search rules)
-    (no c.cycle_ok.ensures c.if-not-cycle_ok.true) c.loop-i.invariant.1
+    (sym c.cycle_ok.ensures ∙ c.if-not-cycle_ok.true) c.loop-i.invariant.1
 
 pub loop-i-preserved : goal.loop-i-preserved
 loop-i-preserved c =
-    let t = c.args.t1 in
+    let t = c.args.table in
     let e : length t.items ≡ 16 = search (rules, length-told) in (
       search rules,
-      passed-of ok_cycle t.count t.items c.loop-i.i _ (search rules) (search rules) (yes c.cycle_ok.ensures c.if-not-cycle_ok.false) c.loop-i.invariant.1,
+      passed-of ok_cycle t.count t.items c.loop-i.i _ (search rules) (search rules) (sym c.cycle_ok.ensures ∙ c.if-not-cycle_ok.false) c.loop-i.invariant.1,
     )
 
 pub returns : goal.returns
 unfolding ok_cycles
 returns c =
-    let t = c.args.t1 in
+    let t = c.args.table in
     let e : length t.items ≡ 16 = search (rules, length-told) in
     counted-yes ok_cycle t.count 16 t.items c.loop-i.i (search rules) e (search rules) c.loop-i.invariant.1

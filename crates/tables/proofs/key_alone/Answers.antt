@@ -21,28 +21,28 @@ pub returns-then-k-x : goal.returns-then-k-x
 unfolding absent
 returns-then-k-x c =
     let a = c.args in
-    let k = get_or a.t1.items a.i 0 in
-    let m : length a.t1.items ≡ key_limit = search rules in
-    let n = length-take-le a.t1.count a.t1.items (omega (arith, c.requires.1)) in
-    failed-from (other k) (take a.t1.count a.t1.items) (a.i + 1) c.loop-j.j 0 (omega arith) c.loop-j.invariant.2
-    (ap (other k) (get_or-take a.t1.count a.t1.items c.loop-j.j 0 (search rules)) ∙ ap not (eq-eqb _ _ c.if-k-x.true))
+    let k = get_or a.keys.items a.i 0 in
+    let m : length a.keys.items ≡ key_limit = search rules in
+    let n = length-take-le a.keys.count a.keys.items (omega (arith, c.requires.1)) in
+    failed-from (other k) (take a.keys.count a.keys.items) (a.i + 1) c.loop-j.j 0 (omega arith) c.loop-j.invariant.2
+    (ap (other k) (get_or-take a.keys.count a.keys.items c.loop-j.j 0 (search rules)) ∙ ap not (eq-eqb _ _ c.if-k-x.true))
 
 pub loop-j-preserved : goal.loop-j-preserved
 loop-j-preserved c =
     let a = c.args in
-    let k = get_or a.t1.items a.i 0 in
-    let m : length a.t1.items ≡ key_limit = search rules in
-    let n = length-take-le a.t1.count a.t1.items (omega (arith, c.requires.1)) in (
+    let k = get_or a.keys.items a.i 0 in
+    let m : length a.keys.items ≡ key_limit = search rules in
+    let n = length-take-le a.keys.count a.keys.items (omega (arith, c.requires.1)) in (
       search rules,
       search rules,
-      passed-from (other k) (take a.t1.count a.t1.items) (a.i + 1) c.loop-j.j 0 (omega arith) c.loop-j.invariant.2
-          (ap (other k) (get_or-take a.t1.count a.t1.items c.loop-j.j 0 (search rules)) ∙ ap not (ne_eqb _ _ c.if-k-x.false)),
+      passed-from (other k) (take a.keys.count a.keys.items) (a.i + 1) c.loop-j.j 0 (omega arith) c.loop-j.invariant.2
+          (ap (other k) (get_or-take a.keys.count a.keys.items c.loop-j.j 0 (search rules)) ∙ ap not (ne_eqb _ _ c.if-k-x.false)),
     )
 
 pub returns : goal.returns
 unfolding absent
 returns c =
     let a = c.args in
-    let m : length a.t1.items ≡ key_limit = search rules in
-    let n = length-take-le a.t1.count a.t1.items (omega (arith, c.requires.1)) in
-    ended-from (other (get_or a.t1.items a.i 0)) (take a.t1.count a.t1.items) (a.i + 1) c.loop-j.j (omega arith) c.loop-j.invariant.2
+    let m : length a.keys.items ≡ key_limit = search rules in
+    let n = length-take-le a.keys.count a.keys.items (omega (arith, c.requires.1)) in
+    ended-from (other (get_or a.keys.items a.i 0)) (take a.keys.count a.keys.items) (a.i + 1) c.loop-j.j (omega arith) c.loop-j.invariant.2

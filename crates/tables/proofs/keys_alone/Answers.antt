@@ -1,5 +1,5 @@
 -- `tables::keys_alone`: each key against those behind it; what is left decides (laws, Keys).
-use mathlib.Core.Path.{◌≡◌, refl, ap, ◌∙◌}
+use mathlib.Core.Path.{◌≡◌, refl, sym, ap, ◌∙◌}
 use Prim.Native.Nat.{ℕ, ◌+◌, ◌-◌, ◌≤◌}
 use native.Mathlib.Omega.{arith}
 use borrow.Author.Rules.{rules}
@@ -43,7 +43,7 @@ returns-then-not-key_alone c =
     let a = c.args.keys in
     let i = c.loop-i.i in
     one-twice (take a.count a.items) i 0 (omega (arith, counted c)) c.loop-i.invariant.1
-    (ap (λ (k : ℕ). absent k (drop (i + 1) (take a.count a.items))) (get_or-take a.count a.items i 0 (search rules)) ∙ no c.key_alone.ensures c.if-not-key_alone.true)
+    (ap (λ (k : ℕ). absent k (drop (i + 1) (take a.count a.items))) (get_or-take a.count a.items i 0 (search rules)) ∙ sym c.key_alone.ensures ∙ c.if-not-key_alone.true)
 
 pub loop-i-preserved : goal.loop-i-preserved
 loop-i-preserved c =
@@ -51,7 +51,7 @@ loop-i-preserved c =
     let i = c.loop-i.i in (
       search rules,
       one-alone (take a.count a.items) i 0 (omega (arith, counted-at-2 c)) c.loop-i.invariant.1
-          (ap (λ (k : ℕ). absent k (drop (i + 1) (take a.count a.items))) (get_or-take a.count a.items i 0 (search rules)) ∙ yes c.key_alone.ensures c.if-not-key_alone.false),
+          (ap (λ (k : ℕ). absent k (drop (i + 1) (take a.count a.items))) (get_or-take a.count a.items i 0 (search rules)) ∙ sym c.key_alone.ensures ∙ c.if-not-key_alone.false),
     )
 
 pub returns : goal.returns

@@ -30,19 +30,19 @@ loop-i-init c = (search rules, refl)
 
 pub returns-then-x-lt0 : goal.returns-then-x-lt0
 returns-then-x-lt0 c =
-    let a = c.args.t1 in
+    let a = c.args.list in
     let e : length a.items ≡ list_limit = search rules in
     let h = length-triples a (search rules) in
-    let f : SFits w32 (get_or a.items (c.loop-i.i * 3 + 2) (pos 0)) = record { sfits = c.x-1.given } in
+    let f : SFits w32 (get_or a.items (c.loop-i.i * 3 + 2) (pos 0)) = search rules in
     failed forward (triples (shown a)) c.loop-i.i no_triple (omega arith)
     (third a (search rules) c.loop-i.i (search rules) ∙ ap not (lt-back-l (pos 0) f c.if-x-lt0.true)) c.loop-i.invariant.1
 
 pub loop-i-preserved : goal.loop-i-preserved
 loop-i-preserved c =
-    let a = c.args.t1 in
+    let a = c.args.list in
     let e : length a.items ≡ list_limit = search rules in
     let h = length-triples a (search rules) in
-    let f : SFits w32 (get_or a.items (c.loop-i.i * 3 + 2) (pos 0)) = record { sfits = c.x-1.given } in (
+    let f : SFits w32 (get_or a.items (c.loop-i.i * 3 + 2) (pos 0)) = search rules in (
       search rules,
       passed forward (triples (shown a)) c.loop-i.i no_triple (omega arith)
           (third a (search rules) c.loop-i.i (search rules) ∙ ap not (lt-back-l (pos 0) f c.if-x-lt0.false)) c.loop-i.invariant.1,
@@ -50,7 +50,7 @@ loop-i-preserved c =
 
 pub returns : goal.returns
 returns c =
-    let a = c.args.t1 in
+    let a = c.args.list in
     let e : length a.items ≡ list_limit = search rules in
     let h = length-triples a (search rules) in
     ended forward (triples (shown a)) c.loop-i.i (omega arith) c.loop-i.invariant.1

@@ -14,6 +14,6 @@ returns c =
     let x = c.args.e in
     both
     (both {b = leb x.cycling 1}
-    (both {b = leb x.index x.values.count} (is_at w32 {z = x.target} is_target c.struct_told-1.given.0.1 c.is_target.ensures) refl)
+    (both {b = leb x.index x.values.count} (is_at w32 {z = x.target} is_target (search rules) c.is_target.ensures) refl)
     refl)
     c.numbers_ok.ensures

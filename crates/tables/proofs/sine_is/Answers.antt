@@ -14,5 +14,5 @@ pub returns : goal.returns
 unfolding sine_at
 returns c =
     let a = c.args in
-    let f : SFits w32 a.e.target = record { sfits = c.struct_told-1.given.0.1 } in
+    let f : SFits w32 a.e.target = search rules in
     ap (λ (n : ℕ). eqb n a.k) (c.key_of.ensures ∙ ap key (to_z-of_z f))

@@ -12,14 +12,12 @@ pub returns : goal.returns
 unfolding ok_sine
 returns c =
     let x = c.args.e in
-    let g = c.struct_told-1.given in
-    let ends = g.1.1 in
     both
     (both
     (both
     (both
-    (both {b = leb x.shape 2} (is_at w32 {z = x.target} is_target g.0.1 c.is_target.ensures) refl)
-    (is_at w32 {z = x.low} is_sine_end ends.0.1 c.is_sine_end.ensures))
-    (is_at w32 {z = x.high} is_sine_end ends.1.0.1 c.is_sine_end-2.ensures))
-    (is_at w32 {z = x.length} is_length ends.1.1.0.1 c.is_length.ensures))
-    (is_at w32 {z = x.times} is_length ends.1.1.1.0.1 c.is_length-2.ensures)
+    (both {b = leb x.shape 2} (is_at w32 {z = x.target} is_target (search rules) c.is_target.ensures) refl)
+    (is_at w32 {z = x.low} is_sine_end (search rules) c.is_sine_end.ensures))
+    (is_at w32 {z = x.high} is_sine_end (search rules) c.is_sine_end-2.ensures))
+    (is_at w32 {z = x.length} is_length (search rules) c.is_length.ensures))
+    (is_at w32 {z = x.times} is_length (search rules) c.is_length-2.ensures)

@@ -116,30 +116,24 @@ module _ (c : goal.After-all-1) where
       16 (note_keys a.notes) (after-notes-at-6 c) (omega arith)
 
 module _ (c : goal.After-all-1) where
-  abbrev begun : tie.Start
-  begun = c
-
-  sines-pass : ok_sines begun.args.sines ≡ true
+  sines-pass : ok_sines c.args.sines ≡ true
   sines-pass = told-yes _ _ _ c.test_sines-c.ensures c.if-not-c.false
 
-  after-sines : Room c.test_sines-c.result.keys 48 (note_keys begun.args.notes ++ wave_keys begun.args.waves ++ sine_keys begun.args.sines)
+  after-sines : Room c.test_sines-c.result.keys 48 (note_keys c.args.notes ++ wave_keys c.args.waves ++ sine_keys c.args.sines)
   unfolding ok_sines
   after-sines =
-      let a = begun.args in
+      let a = c.args in
       room_after ok_sine (λ (e : OnNoteSine). key e.target) a.sines.items a.sines.count c.test_waves-b.result.keys c.test_sines-c.ensures sines-pass
       32 (note_keys a.notes ++ wave_keys a.waves) (after-waves-at-4 c) (omega arith)
 
 module _ (c : goal.After-keys_alone) where
-  abbrev begun-at-2 : tie.Start
-  begun-at-2 = c
-
-  sines-pass-at-2 : ok_sines begun-at-2.args.sines ≡ true
+  sines-pass-at-2 : ok_sines c.args.sines ≡ true
   sines-pass-at-2 = told-yes _ _ _ c.test_sines-c.ensures c.if-not-c.false
 
-  after-sines-at-2 : Room c.test_sines-c.result.keys 48 (note_keys begun-at-2.args.notes ++ wave_keys begun-at-2.args.waves ++ sine_keys begun-at-2.args.sines)
+  after-sines-at-2 : Room c.test_sines-c.result.keys 48 (note_keys c.args.notes ++ wave_keys c.args.waves ++ sine_keys c.args.sines)
   unfolding ok_sines
   after-sines-at-2 =
-      let a = begun-at-2.args in
+      let a = c.args in
       room_after ok_sine (λ (e : OnNoteSine). key e.target) a.sines.items a.sines.count c.test_waves-b.result.keys c.test_sines-c.ensures sines-pass-at-2
       32 (note_keys a.notes ++ wave_keys a.waves) (after-waves-at-3 c) (omega arith)
 

@@ -29,7 +29,7 @@ module _ (c : goal.Else-wave_is) where
 
   n-at-at-3 : c.loop-i.n ≤ c.loop-i.i
   n-at-at-3 =
-      few no_wave (wave_at c.args.k) c.args.table.items c.loop-i.items c.args.table.count c.loop-i.i c.loop-i.n c.loop-i.inv (omega (arith, long-at-3))
+      few no_wave (wave_at c.args.k) c.args.table.items c.loop-i.items c.args.table.count c.loop-i.i c.loop-i.n c.loop-i.invariant (omega (arith, long-at-3))
 
 -- what is kept is no more than was passed
 module _ (c : goal.After-loop-i) where
@@ -38,7 +38,7 @@ module _ (c : goal.After-loop-i) where
 
   n-at-at-4 : c.loop-i.n ≤ c.loop-i.i
   n-at-at-4 =
-      few no_wave (wave_at c.args.k) c.args.table.items c.loop-i.items c.args.table.count c.loop-i.i c.loop-i.n c.loop-i.inv (omega (arith, long-at-4))
+      few no_wave (wave_at c.args.k) c.args.table.items c.loop-i.items c.args.table.count c.loop-i.i c.loop-i.n c.loop-i.invariant (omega (arith, long-at-4))
 
 -- what is kept is no more than was passed
 module _ (c : goal.After-clear_waves) where

@@ -24,20 +24,20 @@ past = record { target = pos 0; mode = 0; values = record { count = 0; items = [
 pub loop-i-init : goal.loop-i-init
 loop-i-init c =
     let a = c.args in
-    nothing_yet key_of a.t1.items a.keys.items a.keys.count a.t1.count
+    nothing_yet key_of a.table.items a.keys.items a.keys.count a.table.count
 
 pub loop-i-preserved : goal.loop-i-preserved
 loop-i-preserved c =
     let a = c.args in
-    let n : length a.t1.items ≡ 16 = search (rules, length-told) in
+    let n : length a.table.items ≡ 16 = search (rules, length-told) in
     let m : length a.keys.items ≡ key_limit = search rules in
-    let f : SFits w32 (get_or a.t1.items c.loop-i.i past).target = record { sfits = c.struct_told-1.given.0.1 } in
-    one_further key_of a.t1.items a.keys.items a.keys.count a.t1.count (omega (arith, c.requires.0)) c.loop-i.items c.loop-i.i c.key_of.result past c.loop-i.invariant
+    let f : SFits w32 (get_or a.table.items c.loop-i.i past).target = search rules in
+    one_further key_of a.table.items a.keys.items a.keys.count a.table.count (omega (arith, c.requires.0)) c.loop-i.items c.loop-i.i c.key_of.result past c.loop-i.invariant
     (search rules) (omega (arith, c.requires.1)) (c.key_of.ensures ∙ ap key (to_z-of_z f))
 
 pub returns : goal.returns
 returns c =
     let a = c.args in
-    let n : length a.t1.items ≡ 16 = search (rules, length-told) in
-    let r = all_in key_of a.t1.items a.keys.items a.keys.count a.t1.count (omega (arith, c.requires.0)) c.loop-i.items c.loop-i.i c.loop-i.invariant (search rules) in
+    let n : length a.table.items ≡ 16 = search (rules, length-told) in
+    let r = all_in key_of a.table.items a.keys.items a.keys.count a.table.count (omega (arith, c.requires.0)) c.loop-i.items c.loop-i.i c.loop-i.invariant (search rules) in
     ap₂ (λ (k : ℕ) (x : List ℕ). record { count = k; items = x }) r.0 r.1

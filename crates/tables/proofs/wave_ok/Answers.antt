@@ -1,5 +1,5 @@
 -- `tables::wave_ok`: a list that is no curve answers at once; past that the other tests are joined.
-use mathlib.Core.Path.{◌≡◌, refl, ap}
+use mathlib.Core.Path.{◌≡◌, refl, sym, ap, ◌∙◌}
 use mathlib.Core.Bool.{Bool, true, not, ◌||◌}
 use borrow.Author.Rules.{rules}
 use mir.Syntax.{w32}
@@ -14,16 +14,16 @@ use Rattle.tables.proofs.wave_ok.Goals as goal
 -- past the first test
 module _ (c : goal.After-is_target) where
   curve : ok_curve c.args.e.values ≡ true
-  curve = yes c.curve_ok.ensures c.if-not-curve_ok.left
+  curve = sym c.curve_ok.ensures ∙ c.if-not-curve_ok.false
 
 -- past the first test
 module _ (c : goal.After-lengths_ok) where
   curve-at-2 : ok_curve c.args.e.values ≡ true
-  curve-at-2 = yes c.curve_ok.ensures c.if-not-curve_ok.left
+  curve-at-2 = sym c.curve_ok.ensures ∙ c.if-not-curve_ok.false
 
 pub returns-then-not-curve_ok : goal.returns-then-not-curve_ok
 unfolding ok_wave
-returns-then-not-curve_ok c = and_no _ (no c.curve_ok.ensures c.if-not-curve_ok.true)
+returns-then-not-curve_ok c = and_no _ (sym c.curve_ok.ensures ∙ c.if-not-curve_ok.true)
 
 pub lengths_ok-requires : goal.lengths_ok-requires
 lengths_ok-requires c =
@@ -36,5 +36,5 @@ returns c =
     let x = c.args.e in
     and_yes (curve-at-2 c)
     (both {b = not (eqb x.mode 1) || c.lengths_ok.result}
-    (both {b = leb x.mode 2} (is_at w32 {z = x.target} is_target c.struct_told-1.given.0.1 c.is_target.ensures) refl)
+    (both {b = leb x.mode 2} (is_at w32 {z = x.target} is_target (search rules) c.is_target.ensures) refl)
     (ap (λ (b : Bool). not (eqb x.mode 1) || b) c.lengths_ok.ensures))

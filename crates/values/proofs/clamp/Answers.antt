@@ -12,7 +12,6 @@ use borrow.Author.Rules.{rules, sfits_of}
 use Rattle.laws.proofs.Signed.{lt-back-l}
 use Rattle.laws.proofs.Bits.{bits-eq, bits-differ}
 use Rattle.laws.specs.Integers.{eq_z}
-use Rattle.numbers.specs.Ranges.{is_controller}
 use Rattle.values.specs.Clamp.{clamped, scaled_for, top_of}
 use Rattle.values.proofs.Targets.{told-controller, told_below, told-above}
 use Rattle.values.proofs.clamp.Goals as goal
@@ -23,30 +22,30 @@ small h = record { sfits = h }
 -- no bend either
 module _ (c : goal.In_default) where
   not-small : eq_z c.args.target (pos 128) ≡ false
-  not-small = bits-differ c.fits.target (small {z = pos 128} (omega arith)) c.in_default-own.rest.0.1
+  not-small = bits-differ c.ranges.target (small {z = pos 128} (omega arith)) (search rules)
 
   not_wide : eq_z c.args.target (pos 129) ≡ false
-  not_wide = bits-differ c.fits.target (small {z = pos 129} (omega arith)) c.in_default-own.rest.1
+  not_wide = bits-differ c.ranges.target (small {z = pos 129} (omega arith)) (search rules)
 
 -- no bend either
 module _ (c : goal.In_default-2) where
   not-small-at-2 : eq_z c.args.target (pos 128) ≡ false
-  not-small-at-2 = bits-differ c.fits.target (small {z = pos 128} (omega arith)) c.in_default-own.rest.0.1
+  not-small-at-2 = bits-differ c.ranges.target (small {z = pos 128} (omega arith)) (search rules)
 
   not_wide-at-2 : eq_z c.args.target (pos 129) ≡ false
-  not_wide-at-2 = bits-differ c.fits.target (small {z = pos 129} (omega arith)) c.in_default-own.rest.1
+  not_wide-at-2 = bits-differ c.ranges.target (small {z = pos 129} (omega arith)) (search rules)
 
 pub returns-in-128 : goal.returns-in-128
 unfolding clamped scaled_for top_of
 returns-in-128 c =
-    let e : c.args.target ≡ pos 128 = bits-eq c.ranges.target (small {z = pos 128} (omega arith)) c.in-128-own.keys1 in
+    let e : c.args.target ≡ pos 128 = bits-eq c.ranges.target (small {z = pos 128} (omega arith)) (search rules) in
     to_z-of_z {w = w64} (sfits_of c.value_range.type_inv) ∙ c.value_range.ensures
     ∙ rw (to_z-of_z {w = w64} (sfits_of c.scaled.type_inv), c.scaled.ensures, to_z-of_z c.ranges.v, e, told-above (pos 128) refl)
 
 pub returns-in-129 : goal.returns-in-129
 unfolding clamped scaled_for top_of
 returns-in-129 c =
-    let e : c.args.target ≡ pos 129 = bits-eq c.ranges.target (small {z = pos 129} (omega arith)) c.in-129-own.keys2 in
+    let e : c.args.target ≡ pos 129 = bits-eq c.ranges.target (small {z = pos 129} (omega arith)) (search rules) in
     to_z-of_z {w = w64} (sfits_of c.value_range-in-129.type_inv) ∙ c.value_range-in-129.ensures
     ∙ rw (to_z-of_z {w = w64} (sfits_of c.raised.type_inv), c.raised.ensures, to_z-of_z c.ranges.v, e, told-above (pos 129) refl)
 
@@ -54,15 +53,15 @@ pub returns-in-0-to-127 : goal.returns-in-0-to-127
 unfolding clamped scaled_for top_of
 returns-in-0-to-127 c =
     let f = c.ranges.target in
-    let q = told-controller c.args.target (lt-back-l (pos 0) f c.if-target-lt0-own.false) (lt-back-l (pos 128) f c.if-target-lt128-own.true) in
+    let q = told-controller c.args.target (lt-back-l (pos 0) f (search rules)) (lt-back-l (pos 128) f (search rules)) in
     to_z-of_z {w = w64} (sfits_of c.value_range-in-0-to-127.type_inv) ∙ c.value_range-in-0-to-127.ensures ∙ rw (to_z-of_z c.ranges.v, q)
 
 pub returns-in_default : goal.returns-in_default
 unfolding clamped scaled_for top_of
 returns-in_default c =
-    rw (told_below c.args.target (lt-back-l (pos 0) c.ranges.target c.if-target-lt0-own.true), not-small c, not_wide c)
+    rw (told_below c.args.target (lt-back-l (pos 0) c.ranges.target (search rules)), not-small c, not_wide c)
 
 pub returns-in_default-2 : goal.returns-in_default-2
 unfolding clamped scaled_for top_of
 returns-in_default-2 c =
-    rw (told-above c.args.target (lt-back-l (pos 128) c.ranges.target c.if-target-lt128-own.false), not-small-at-2 c, not_wide-at-2 c)
+    rw (told-above c.args.target (lt-back-l (pos 128) c.ranges.target (search rules)), not-small-at-2 c, not_wide-at-2 c)

@@ -13,18 +13,18 @@ use Rattle.values.proofs.limit.Goals as goal
 pub returns-in-Open : goal.returns-in-Open
 returns-in-Open c =
     let v = to_z-of_z c.ranges.v in
-    let e = sym c.range_of-range.ensures ∙ c.in-Open.is.1 in
+    let e = sym c.range_of-range.ensures ∙ c.in-Open.is in
     rw (v, e) (refl, omega arith)
 
 pub returns-in-Limits : goal.returns-in-Limits
 returns-in-Limits c =
-    let x = c.in-Limits.low.0 in
-    let low = to_z-of_z {w = w64} (sfits_of c.widened-least.type_inv) ∙ c.widened-least.ensures.0 ∙ to_z-of_z {w = w32} {z = x.0} (record { sfits = c.known_told-1-own.given.0.1 }) in
-    let high = to_z-of_z {w = w64} (sfits_of c.widened-most.type_inv) ∙ c.widened-most.ensures.0 ∙ to_z-of_z {w = w32} {z = x.1.0} (record { sfits = c.known_told-1-own.given.1.0.1 }) in
-    let e = sym c.range_of-range.ensures ∙ c.in-Limits.low.1 in
-    let q : c.value_range.result ≡ range_of x.0 c.args.v x.1.0 = c.value_range.ensures ∙ rw (low, high, to_z-of_z c.ranges.v) in
-    let p = c.requires in
-    let lo : mag x.0 < 2 ^ 31 = c.known_told-1-own.given.0.1 in
-    let hi : mag x.1.0 < 2 ^ 31 = c.known_told-1-own.given.1.0.1 in
-    let m = mag-range x.0 c.args.v x.1.0 (2 ^ 38) (omega arith) (omega arith) (omega arith) in
+    let l = c.in-Limits.low in
+    let h = c.in-Limits.high in
+    let lo : mag l < 2 ^ 31 = search rules in
+    let hi : mag h < 2 ^ 31 = search rules in
+    let low = to_z-of_z {w = w64} (sfits_of c.widened-least.type_inv) ∙ c.widened-least.ensures.0 ∙ to_z-of_z {w = w32} {z = l} (record { sfits = lo }) in
+    let high = to_z-of_z {w = w64} (sfits_of c.widened-most.type_inv) ∙ c.widened-most.ensures.0 ∙ to_z-of_z {w = w32} {z = h} (record { sfits = hi }) in
+    let e = sym c.range_of-range.ensures ∙ c.in-Limits.is in
+    let q : c.value_range.result ≡ range_of l c.args.v h = c.value_range.ensures ∙ rw (low, high, to_z-of_z c.ranges.v) in
+    let m = mag-range l c.args.v h (2 ^ 38) (omega arith) (omega arith) (omega arith) in
     rw (to_z-of_z {w = w64} (sfits_of c.value_range.type_inv), q, e) (refl, omega arith)

@@ -1,6 +1,6 @@
 -- The budget's random step and the option's range give the value that the definition says (`spread-seed`), the bytes are asked of the
 -- budget after that step.
-use mathlib.Core.Path.{◌≡◌, sym, ap, ap₂, subst, ◌∙◌}
+use mathlib.Core.Path.{◌≡◌, refl, sym, ap, ap₂, subst, ◌∙◌}
 use mathlib.Core.Bool.{Bool}
 use native.Mathlib.Omega.{arith}
 use Prim.Native.Nat.{◌≤◌, ◌<◌, ◌^◌}
@@ -17,10 +17,12 @@ use Rattle.budget.specs.declared.Rolled.{Rolled}
 use Rattle.budget.specs.declared.Budget.{Budget}
 use Rattle.budget.specs.Budgets.{rolled, reserved, fits}
 use Rattle.events.specs.declared.Event.{Event}
+use Rattle.values.specs.declared.Offer.{Offer}
+use Rattle.values.specs.declared.Write.{Write}
 use Rattle.values.specs.declared.Wrote.{Wrote}
 use Rattle.values.specs.Options.{moved, limited, range_in}
 use Rattle.values.specs.Clamp.{clamped}
-use Rattle.values.specs.Value.{event_for, event_of_offer, next_seed, time_of, wrote_of}
+use Rattle.values.specs.Value.{Near, event_for, event_of_offer, next_seed, time_of, wrote_of}
 use Rattle.values.proofs.Paying.{spread-seed}
 use borrow.Author.Rules.{rules}
 use Rattle.values.proofs.one_value.Goals as goal
@@ -35,117 +37,85 @@ event-same p q r s = cc
 wrote : {x y : Budget} {e f : Event} {s t : Bool} → x ≡ y → e ≡ f → s ≡ t → ◌≡◌ {A = Wrote} (record { budget = x; event = e; fits = s }) (record { budget = y; event = f; fits = t })
 wrote p q r = cc
 
-module _ (c : goal.After-struct_told-2-1) where
-  value-is : to_z w64 (of_z w64 c.args.o.value) ≡ c.args.o.value
-  value-is = let n = c.requires.1.value in to_z-of_z (let f : SFits w64 c.args.o.value = omega arith in f)
-
-  random-bits : to_z w64 (of_z w64 c.widened.result) ≡ c.widened.result
-  random-bits = to_z-of_z {w = w64} (sfits_of c.widened.type_inv)
-
-module _ (c : goal.After-struct_told-3-1) where
-  value-is-at-2 : to_z w64 (of_z w64 c.args.o.value) ≡ c.args.o.value
-  value-is-at-2 = let n = c.requires.1.value in to_z-of_z (let f : SFits w64 c.args.o.value = omega arith in f)
-
-  random-bits-at-2 : to_z w64 (of_z w64 c.widened.result) ≡ c.widened.result
-  random-bits-at-2 = to_z-of_z {w = w64} (sfits_of c.widened.type_inv)
-
-  random-is-at-2 : c.widened.result ≡ c.args.w.option.random
-  random-is-at-2 = c.widened.ensures.0 ∙ to_z-of_z {w = w32} {z = c.args.w.option.random} (record { sfits = c.struct_told-1.given.1.0.1 })
-
-module _ (c : goal.After-after-1) where
-  value-is-at-3 : to_z w64 (of_z w64 c.args.o.value) ≡ c.args.o.value
-  value-is-at-3 = let n = c.requires.1.value in to_z-of_z (let f : SFits w64 c.args.o.value = omega arith in f)
-
-  random-bits-at-3 : to_z w64 (of_z w64 c.widened.result) ≡ c.widened.result
-  random-bits-at-3 = to_z-of_z {w = w64} (sfits_of c.widened.type_inv)
-
-  random-is-at-3 : c.widened.result ≡ c.args.w.option.random
-  random-is-at-3 = c.widened.ensures.0 ∙ to_z-of_z {w = w32} {z = c.args.w.option.random} (record { sfits = c.struct_told-1.given.1.0.1 })
-
 -- the value that random gave, and the budget after it
-module _ (c : goal.After-struct_told-3-1) where
-  abbrev start : tie.Start
-  start = c
+module _ (w : Write) (b : Budget) (o : Offer) {x : ℤ} {r : Rolled} (n : Near o) (m : mag w.option.random < 2 ^ 31)
+    (p : x ≡ to_z w32 (of_z w32 w.option.random)) (q : r ≡ rolled (to_z w64 (of_z w64 o.value)) (to_z w64 (of_z w64 x)) b) where
+  value-is : to_z w64 (of_z w64 o.value) ≡ o.value
+  value-is = let k = n.value in to_z-of_z (let f : SFits w64 o.value = omega arith in f)
 
-  rolled-is : c.calc_rand_value-moved.result ≡ rolled start.args.o.value start.args.w.option.random start.args.b
-  rolled-is =
-      c.calc_rand_value-moved.ensures
-      ∙ ap₂ (λ (v n : ℤ). rolled v n start.args.b) (value-is-at-2 c) (random-bits-at-2 c ∙ random-is-at-2 c)
+  random-is : to_z w64 (of_z w64 x) ≡ w.option.random
+  random-is =
+      let e = p ∙ to_z-of_z {w = w32} {z = w.option.random} (record { sfits = m }) in
+      rw e (to_z-of_z (let f : SFits w64 w.option.random = omega arith in f))
 
-  rolled-small : mag c.calc_rand_value-moved.result.value < 2 ^ 38
+  rolled-is : r ≡ rolled o.value w.option.random b
+  rolled-is = q ∙ ap₂ (λ (v n : ℤ). rolled v n b) value-is random-is
+
+  rolled-small : mag r.value < 2 ^ 38
   rolled-small =
-      let e : c.calc_rand_value-moved.result.value ≡ spread start.args.o.value start.args.w.option.random (next_rand start.args.b.seed) = ap (λ (r : Rolled). r.value) rolled-is in
-      let n = start.pre.1.value in
-      let m : mag start.args.w.option.random < 2 ^ 31 = subst (λ (z : ℤ). mag z < 2 ^ 31) (random-is-at-2 c) c.widened.ensures.1 in
-      let k = cut-le start.args.w.option.random in
-      subst (λ (z : ℤ). mag z < 2 ^ 38) (sym e) (omega (arith, spread-mag start.args.o.value start.args.w.option.random (next_rand start.args.b.seed)))
+      let e : r.value ≡ spread o.value w.option.random (next_rand b.seed) = ap (λ (r : Rolled). r.value) rolled-is in
+      let v = n.value in
+      let k = cut-le w.option.random in
+      subst (λ (z : ℤ). mag z < 2 ^ 38) (sym e) (omega (arith, spread-mag o.value w.option.random (next_rand b.seed)))
 
-  rolled-bits : to_z w64 (of_z w64 c.calc_rand_value-moved.result.value) ≡ c.calc_rand_value-moved.result.value
-  rolled-bits = let h = rolled-small in to_z-of_z (let f : SFits w64 c.calc_rand_value-moved.result.value = omega arith in f)
-
--- the value that random gave, and the budget after it
-module _ (c : goal.After-after-1) where
-  abbrev start-at-2 : tie.Start
-  start-at-2 = c
-
-  rolled-is-at-2 : c.calc_rand_value-moved.result ≡ rolled start-at-2.args.o.value start-at-2.args.w.option.random start-at-2.args.b
-  rolled-is-at-2 =
-      c.calc_rand_value-moved.ensures
-      ∙ ap₂ (λ (v n : ℤ). rolled v n start-at-2.args.b) (value-is-at-3 c) (random-bits-at-3 c ∙ random-is-at-3 c)
-
-  rolled-small-at-2 : mag c.calc_rand_value-moved.result.value < 2 ^ 38
-  rolled-small-at-2 =
-      let e : c.calc_rand_value-moved.result.value ≡ spread start-at-2.args.o.value start-at-2.args.w.option.random (next_rand start-at-2.args.b.seed) = ap (λ (r : Rolled). r.value) rolled-is-at-2 in
-      let n = start-at-2.pre.1.value in
-      let m : mag start-at-2.args.w.option.random < 2 ^ 31 = subst (λ (z : ℤ). mag z < 2 ^ 31) (random-is-at-3 c) c.widened.ensures.1 in
-      let k = cut-le start-at-2.args.w.option.random in
-      subst (λ (z : ℤ). mag z < 2 ^ 38) (sym e) (omega (arith, spread-mag start-at-2.args.o.value start-at-2.args.w.option.random (next_rand start-at-2.args.b.seed)))
-
-  rolled-bits-at-2 : to_z w64 (of_z w64 c.calc_rand_value-moved.result.value) ≡ c.calc_rand_value-moved.result.value
-  rolled-bits-at-2 = let h = rolled-small-at-2 in to_z-of_z (let f : SFits w64 c.calc_rand_value-moved.result.value = omega arith in f)
+  rolled-bits : to_z w64 (of_z w64 r.value) ≡ r.value
+  rolled-bits = let h = rolled-small in to_z-of_z (let f : SFits w64 r.value = omega arith in f)
 
 -- the value that is clamped, and the event that it becomes
 module _ (c : goal.After-after-1) where
-  abbrev a : tie.Start
-  a = start-at-2 c
+  abbrev w : Write
+  w = c.args.w
 
-  seed-is : spread a.args.o.value a.args.w.option.random (next_rand a.args.b.seed) ≡ spread a.args.o.value a.args.w.option.random (next_seed a.args.w a.args.b.seed)
-  seed-is = spread-seed a.args.o.value a.args.w.option.random a.args.b.seed
+  random-small : mag w.option.random < 2 ^ 31
+  random-small = search rules
 
-  limit_is : c.limit.result ≡ moved a.args.w.option a.args.o.value (next_seed a.args.w a.args.b.seed)
+  roll : c.calc_rand_value-moved.result ≡ rolled c.args.o.value w.option.random c.args.b
+  roll = rolled-is w c.args.b c.args.o c.requires.1 random-small c.widened.ensures.0 c.calc_rand_value-moved.ensures
+
+  seed-is : spread c.args.o.value w.option.random (next_rand c.args.b.seed) ≡ spread c.args.o.value w.option.random (next_seed w c.args.b.seed)
+  seed-is = spread-seed c.args.o.value w.option.random c.args.b.seed
+
+  limit_is : c.limit.result ≡ moved w.option c.args.o.value (next_seed w c.args.b.seed)
   unfolding moved
   limit_is =
-      c.limit.ensures.0
-      ∙ ap (limited (range_in a.args.w.option)) (rolled-bits-at-2 c ∙ ap (λ (r : Rolled). r.value) (rolled-is-at-2 c) ∙ seed-is)
+      let bits = rolled-bits w c.args.b c.args.o c.requires.1 random-small c.widened.ensures.0 c.calc_rand_value-moved.ensures in
+      c.limit.ensures.0 ∙ ap (limited (range_in w.option)) (bits ∙ ap (λ (r : Rolled). r.value) roll ∙ seed-is)
 
-  target-bits : to_z w32 (of_z w32 a.args.w.target) ≡ a.args.w.target
-  target-bits = to_z-of_z {w = w32} {z = a.args.w.target} (record { sfits = c.struct_told-4-1.given.0.1 })
+  target-bits : to_z w32 (of_z w32 w.target) ≡ w.target
+  target-bits = to_z-of_z {w = w32} {z = w.target} (record { sfits = search rules })
 
-  channel-bits : to_z w32 (of_z w32 a.args.w.channel) ≡ a.args.w.channel
-  channel-bits = to_z-of_z {w = w32} {z = a.args.w.channel} (record { sfits = c.struct_told-4-1.given.1.0.1 })
+  channel-bits : to_z w32 (of_z w32 w.channel) ≡ w.channel
+  channel-bits = to_z-of_z {w = w32} {z = w.channel} (record { sfits = search rules })
 
-  clamp-is : to_z w64 (of_z w64 c.clamp-v.result) ≡ clamped a.args.w.target (moved a.args.w.option a.args.o.value (next_seed a.args.w a.args.b.seed))
+  clamp-is : to_z w64 (of_z w64 c.clamp-v.result) ≡ clamped w.target (moved w.option c.args.o.value (next_seed w c.args.b.seed))
   clamp-is =
-      to_z-of_z {w = w64} (sfits_of c.clamp-v.ok) ∙ c.clamp-v.ensures
-      ∙ ap₂ clamped target-bits (to_z-of_z {w = w64} (sfits_of c.limit.ok) ∙ limit_is)
+      to_z-of_z {w = w64} (sfits_of c.clamp-v.type_inv) ∙ c.clamp-v.ensures
+      ∙ ap₂ clamped target-bits (to_z-of_z {w = w64} (sfits_of c.limit.type_inv) ∙ limit_is)
 
-  time-is : to_z w64 (of_z w64 c.time_of.result) ≡ time_of a.args.w a.args.o.step
+  time-is : to_z w64 (of_z w64 c.time_of.result) ≡ time_of w c.args.o.step
   time-is = to_z-of_z {w = w64} (sfits_of c.time_of.type_inv) ∙ c.time_of.ensures
 
-  event-is : c.make_event-event.result ≡ event_of_offer a.args.w a.args.o (next_seed a.args.w a.args.b.seed)
+  event-is : c.make_event-event.result ≡ event_of_offer w c.args.o (next_seed w c.args.b.seed)
   unfolding event_of_offer
   event-is = c.make_event-event.ensures ∙ event-same target-bits time-is channel-bits clamp-is
 
 pub calc_rand_value-moved-requires : goal.calc_rand_value-moved-requires
-calc_rand_value-moved-requires c = (rw (value-is c) (let n = c.requires.1.value in omega arith), rw (random-bits c) (let m = c.widened.ensures.1 in omega arith))
+calc_rand_value-moved-requires c =
+    let near = c.requires.1 in
+    let m : mag c.args.w.option.random < 2 ^ 31 = search rules in
+    (rw (value-is c.args.w c.args.b c.args.o near m c.widened.ensures.0 refl) (let n = near.value in omega arith), rw (random-is c.args.w c.args.b c.args.o near m c.widened.ensures.0 refl) (omega arith))
 
 pub limit-requires : goal.limit-requires
-limit-requires c = rw (rolled-bits c) (rolled-small c)
+limit-requires c =
+    let m : mag c.args.w.option.random < 2 ^ 31 = search rules in
+    let e = c.calc_rand_value-moved.ensures in
+    let p = c.widened.ensures.0 in
+    rw (rolled-bits c.args.w c.args.b c.args.o c.requires.1 m p e) (rolled-small c.args.w c.args.b c.args.o c.requires.1 m p e)
 
 pub returns : goal.returns
 unfolding wrote_of
 returns c =
     wrote
-    (c.reserve_event-asked.ensures.0 ∙ ap (λ (x : Rolled). reserved 8 x.budget) (rolled-is-at-2 c))
+    (c.reserve_event-asked.ensures.0 ∙ ap (λ (x : Rolled). reserved 8 x.budget) (roll c))
     (event-is c)
-    (c.reserve_event-asked.ensures.1 ∙ ap (λ (x : Rolled). fits 8 x.budget) (rolled-is-at-2 c))
+    (c.reserve_event-asked.ensures.1 ∙ ap (λ (x : Rolled). fits 8 x.budget) (roll c))

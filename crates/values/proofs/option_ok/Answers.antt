@@ -9,9 +9,8 @@ pub returns : goal.returns
 unfolding ok_option
 returns c =
     let o = c.args.option in
-    let g = c.struct_told-1.given in
-    let delay = to_z-of_z {w = w32} {z = o.delay} (record { sfits = g.0.1 }) in
-    let random = to_z-of_z {w = w32} {z = o.random} (record { sfits = g.1.0.1 }) in
-    let low = to_z-of_z {w = w32} {z = o.low} (record { sfits = g.1.1.1.0.1 }) in
-    let high = to_z-of_z {w = w32} {z = o.high} (record { sfits = g.1.1.1.1.0.1 }) in
+    let delay = to_z-of_z {w = w32} {z = o.delay} (record { sfits = search rules }) in
+    let random = to_z-of_z {w = w32} {z = o.random} (record { sfits = search rules }) in
+    let low = to_z-of_z {w = w32} {z = o.low} (record { sfits = search rules }) in
+    let high = to_z-of_z {w = w32} {z = o.high} (record { sfits = search rules }) in
     rw (c.is_number.ensures, c.is_number-2.ensures, c.is_length.ensures, c.is_random.ensures, delay, random, low, high)

@@ -1,3 +1,4 @@
+use borrow.Author.Rules.{rules}
 use borrow.Author.Tests.{eq-eqb, ne_eqb}
 use mir.Syntax.{w32}
 use mir.Facts.{to_z-of_z}
@@ -12,5 +13,4 @@ pub returns : goal.returns
 unfolding range_in
 returns c =
     let o = c.args.option in
-    let g = c.struct_told-1.given in
-    rw (to_z-of_z {w = w32} {z = o.low} (record { sfits = g.1.1.1.0.1 }), to_z-of_z {w = w32} {z = o.high} (record { sfits = g.1.1.1.1.0.1 }), ne_eqb o.ranged 0 c.if-option-eq0.false)
+    rw (to_z-of_z {w = w32} {z = o.low} (record { sfits = search rules }), to_z-of_z {w = w32} {z = o.high} (record { sfits = search rules }), ne_eqb o.ranged 0 c.if-option-eq0.false)

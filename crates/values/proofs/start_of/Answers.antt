@@ -34,4 +34,5 @@ overflow_add-result c = rw (time-is c, delay-is c) (fit c)
 pub returns : goal.returns
 unfolding start_of
 returns c =
-    rw (time-is c, delay-is c, to_z-of_z (fit c)) (ap (λ (c : ℤ). c.args.w.time +ℤ c) (c.widened.ensures.0 ∙ to_z-of_z {w = w32} {z = c.args.w.option.delay} (record { sfits = c.struct_told-1.given.0.1 })), small c)
+    let e : c.widened.result ≡ c.args.w.option.delay = c.widened.ensures.0 ∙ to_z-of_z {w = w32} {z = c.args.w.option.delay} (record { sfits = search rules }) in
+    rw (time-is c, delay-is c, to_z-of_z (fit c)) (ap (λ (d : ℤ). c.args.w.time +ℤ d) e, small c)

@@ -1,13 +1,12 @@
 -- `Budget::new` chooses by its one test.
-use borrow.Author.Rules.{rules}
-use Rattle.laws.proofs.Tests.{no, yes}
+use mathlib.Core.Path.{sym, ◌∙◌}
 use Rattle.budget.specs.Budgets.{new_budget}
 use Rattle.budget.proofs.Budget.new.Goals as goal
 
 pub returns-then-not-is_bytes : goal.returns-then-not-is_bytes
 unfolding new_budget
-returns-then-not-is_bytes c = rw (no c.is_bytes.ensures c.if-not-is_bytes.true)
+returns-then-not-is_bytes c = rw (sym c.is_bytes.ensures ∙ c.if-not-is_bytes.true)
 
 pub returns : goal.returns
 unfolding new_budget
-returns c = rw (yes c.is_bytes.ensures c.if-not-is_bytes.false)
+returns c = rw (sym c.is_bytes.ensures ∙ c.if-not-is_bytes.false)

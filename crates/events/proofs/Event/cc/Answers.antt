@@ -1,5 +1,4 @@
 -- `cc` meets its contract: the controller's number first, then the event whole.
-use borrow.Author.Rules.{rules}
 use mathlib.Core.Path.{◌≡◌, sym, ap, ◌∙◌}
 use mir.Syntax.{w64}
 use mir.Facts.{to_z-of_z}

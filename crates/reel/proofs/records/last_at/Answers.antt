@@ -10,4 +10,4 @@ use Rattle.reel.proofs.records.last_at.Goals as goal
 pub returns : goal.returns
 unfolding last_at
 returns c = let a = c.args in
-    to_z-of_z {w = w32} (sfits_of c.number_at.type_inv) ∙ c.number_at.ensures ∙ ap (λ (w : ℕ). number_at a.tape.now (a.at + 2 + 4 * (w - 1))) c.width_of_lem.ensures.0
+    to_z-of_z {w = w32} (sfits_of c.number_at.type_inv) ∙ c.number_at.ensures ∙ ap (λ (w : ℕ). number_at a.tape.now (a.at + 2 + 4 * (w - 1))) c.width_of-w.ensures.value

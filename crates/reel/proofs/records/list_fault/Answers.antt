@@ -1,5 +1,5 @@
 -- `list_fault`: the tests, in the definition's order.
-use mathlib.Core.Path.{◌≡◌, ap, ◌∙◌}
+use mathlib.Core.Path.{◌≡◌, sym, ap, ◌∙◌}
 use Prim.Native.Nat.{◌≤◌}
 use native.Mathlib.Omega.{arith}
 use mir.Syntax.{w32}
@@ -7,7 +7,7 @@ use mir.Facts.{to_z-of_z}
 use mathlib.Core.Bool.{true}
 use Rattle.laws.specs.Integers.{cut}
 use Rattle.numbers.specs.Limits.{list_limit}
-use Rattle.laws.proofs.Tests.{no-at, yes-at}
+use Rattle.laws.proofs.Tests.{is_at}
 use Rattle.numbers.specs.Ranges.{is_target}
 use Rattle.reel.specs.Records.{is_count}
 use Rattle.reel.proofs.Reading.{count-few, no_target, no-count, short-list, whole-list}
@@ -16,7 +16,7 @@ use Rattle.reel.proofs.records.list_fault.Goals as goal
 
 module _ (c : goal.After-count_of-k) where
   counts : is_count c.args.n ≡ true
-  counts = yes-at w32 is_count c.ranges.n.sfits c.is_count.ensures c.if-not-is_count.false
+  counts = sym (is_at w32 is_count c.ranges.n.sfits c.is_count.ensures) ∙ c.if-not-is_count.false
 
   counted : c.count_of-k.result ≡ cut c.args.n
   counted = c.count_of-k.ensures ∙ ap cut (to_z-of_z c.ranges.n)
@@ -26,31 +26,31 @@ module _ (c : goal.After-count_of-k) where
 
 module _ (c : goal.Then-tape-at) where
   target-at-2 : is_target c.args.target ≡ true
-  target-at-2 = yes-at w32 is_target c.ranges.target.sfits c.is_target.ensures c.if-not-is_target.false
+  target-at-2 = sym (is_at w32 is_target c.ranges.target.sfits c.is_target.ensures) ∙ c.if-not-is_target.false
 
   counts-at-2 : is_count c.args.n ≡ true
-  counts-at-2 = yes-at w32 is_count c.ranges.n.sfits c.is_count.ensures c.if-not-is_count.false
+  counts-at-2 = sym (is_at w32 is_count c.ranges.n.sfits c.is_count.ensures) ∙ c.if-not-is_count.false
 
   counted-at-2 : c.count_of-k.result ≡ cut c.args.n
   counted-at-2 = c.count_of-k.ensures ∙ ap cut (to_z-of_z c.ranges.n)
 
 module _ (c : goal.Else-tape-at) where
   target-at-3 : is_target c.args.target ≡ true
-  target-at-3 = yes-at w32 is_target c.ranges.target.sfits c.is_target.ensures c.if-not-is_target.false
+  target-at-3 = sym (is_at w32 is_target c.ranges.target.sfits c.is_target.ensures) ∙ c.if-not-is_target.false
 
   counts-at-3 : is_count c.args.n ≡ true
-  counts-at-3 = yes-at w32 is_count c.ranges.n.sfits c.is_count.ensures c.if-not-is_count.false
+  counts-at-3 = sym (is_at w32 is_count c.ranges.n.sfits c.is_count.ensures) ∙ c.if-not-is_count.false
 
   counted-at-3 : c.count_of-k.result ≡ cut c.args.n
   counted-at-3 = c.count_of-k.ensures ∙ ap cut (to_z-of_z c.ranges.n)
 
 pub returns-then-not-is_target : goal.returns-then-not-is_target
-returns-then-not-is_target c = no_target _ _ _ _ _ (no-at w32 is_target c.ranges.target.sfits c.is_target.ensures c.if-not-is_target.true)
+returns-then-not-is_target c = no_target _ _ _ _ _ (sym (is_at w32 is_target c.ranges.target.sfits c.is_target.ensures) ∙ c.if-not-is_target.true)
 
 pub returns-then-not-is_count : goal.returns-then-not-is_count
 returns-then-not-is_count c =
-    let t = yes-at w32 is_target c.ranges.target.sfits c.is_target.ensures c.if-not-is_target.false in
-    no-count _ _ _ _ _ t (no-at w32 is_count c.ranges.n.sfits c.is_count.ensures c.if-not-is_count.true)
+    let t = sym (is_at w32 is_target c.ranges.target.sfits c.is_target.ensures) ∙ c.if-not-is_target.false in
+    no-count _ _ _ _ _ t (sym (is_at w32 is_count c.ranges.n.sfits c.is_count.ensures) ∙ c.if-not-is_count.true)
 
 pub overflow_mul-k : goal.overflow_mul-k
 overflow_mul-k c = omega (arith, few c)

@@ -34,7 +34,7 @@ returns-then-tape-at-2 c =
     let h = c.if-tape-at-2.true in
     let k = c.if-tape-at.false in
     let l = c.if-tape-lt2.false in
-    unmarked a.tape.now a.at c.mark_of-m.result (told c) (omega (arith, c.width_of_lem.ensures.0))
+    unmarked a.tape.now a.at c.mark_of-m.result (told c) (omega (arith, c.width_of-w.ensures.value))
 
 pub returns : goal.returns
 returns c =
@@ -42,4 +42,4 @@ returns c =
     let h = c.if-tape-at-2.false in
     let k = c.if-tape-at.false in
     let l = c.if-tape-lt2.false in
-    marked a.tape.now a.at c.mark_of-m.result (told-at-2 c) (omega (arith, c.width_of_lem.ensures.0))
+    marked a.tape.now a.at c.mark_of-m.result (told-at-2 c) (omega (arith, c.width_of-w.ensures.value))

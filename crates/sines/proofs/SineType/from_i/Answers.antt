@@ -4,6 +4,7 @@ use lib.Dec.{lit<}
 use lib.IntN.{pos}
 use mir.Syntax.{w64}
 use mir.Val.{SFits}
+use borrow.Author.Rules.{rules}
 use Rattle.laws.proofs.Bits.{bits-eq, bits-differ}
 use Rattle.sines.proofs.SineType.from_i.Goals as goal
 
@@ -14,10 +15,10 @@ two : SFits w64 (pos 2)
 two = record { sfits = lit< tt }
 
 pub returns-in-1 : goal.returns-in-1
-returns-in-1 c = rw (bits-eq c.ranges.v one c.in-1-own.keys1) refl
+returns-in-1 c = rw (bits-eq c.ranges.v one (search rules)) refl
 
 pub returns-in-2 : goal.returns-in-2
-returns-in-2 c = rw (bits-eq c.ranges.v two c.in-2-own.keys2) refl
+returns-in-2 c = rw (bits-eq c.ranges.v two (search rules)) refl
 
 pub returns-in_default : goal.returns-in_default
-returns-in_default c = rw (bits-differ c.ranges.v one c.in_default-own.rest.0.1, bits-differ c.ranges.v two c.in_default-own.rest.1) refl
+returns-in_default c = rw (bits-differ c.ranges.v one (search rules), bits-differ c.ranges.v two (search rules)) refl

@@ -1,5 +1,5 @@
 -- `OnNoteSine::new` asks the target, makes the sine and tests that.
-use mathlib.Core.Path.{◌≡◌, ap, ◌∙◌}
+use mathlib.Core.Path.{◌≡◌, sym, ap, ◌∙◌}
 use mathlib.Core.Bool.{true}
 use Prim.Native.Nat.{ℕ}
 use borrow.Author.Rules.{rules}
@@ -26,7 +26,7 @@ module _ (c : goal.Then-not-is_target) where
   sine = sine_of c.args.target c.args.shape c.args.low c.args.high c.args.length c.args.times
 
   aimed : c.is_target.result ≡ is_target c.args.target
-  aimed = is_at w32 is_target c.fits.target.sfits c.is_target.ensures
+  aimed = is_at w32 is_target c.ranges.target.sfits c.is_target.ensures
 
 -- the sine as it is handed in
 module _ (c : goal.Then-not-sine_ok) where
@@ -34,7 +34,7 @@ module _ (c : goal.Then-not-sine_ok) where
   sine-at-2 = sine_of c.args.target c.args.shape c.args.low c.args.high c.args.length c.args.times
 
   aimed-at-2 : c.is_target.result ≡ is_target c.args.target
-  aimed-at-2 = is_at w32 is_target c.fits.target.sfits c.is_target.ensures
+  aimed-at-2 = is_at w32 is_target c.ranges.target.sfits c.is_target.ensures
 
 -- the sine as it is handed in
 module _ (c : goal.Else-not-sine_ok) where
@@ -42,29 +42,29 @@ module _ (c : goal.Else-not-sine_ok) where
   sine-at-3 = sine_of c.args.target c.args.shape c.args.low c.args.high c.args.length c.args.times
 
   aimed-at-3 : c.is_target.result ≡ is_target c.args.target
-  aimed-at-3 = is_at w32 is_target c.fits.target.sfits c.is_target.ensures
+  aimed-at-3 = is_at w32 is_target c.ranges.target.sfits c.is_target.ensures
 
 tested : (c : goal.Then-not-sine_ok) → c.sine_ok.result ≡ ok_sine (sine-at-2 c)
 tested c =
-    let f = c.fits in
+    let f = c.ranges in
     c.sine_ok.ensures ∙ ap ok_sine (same c.args.shape (to_z-of_z f.target) (to_z-of_z f.low) (to_z-of_z f.high) (to_z-of_z f.length) (to_z-of_z f.times))
 
 tested-at-2 : (c : goal.Else-not-sine_ok) → c.sine_ok.result ≡ ok_sine (sine-at-3 c)
 tested-at-2 c =
-    let f = c.fits in
+    let f = c.ranges in
     c.sine_ok.ensures ∙ ap ok_sine (same c.args.shape (to_z-of_z f.target) (to_z-of_z f.low) (to_z-of_z f.high) (to_z-of_z f.length) (to_z-of_z f.times))
 
 pub returns-then-not-is_target : goal.returns-then-not-is_target
 unfolding new_sine
-returns-then-not-is_target c = rw (c.no_sine-none.ensures, no (aimed c) c.if-not-is_target.true)
+returns-then-not-is_target c = rw (c.no_sine-none.ensures, sym (aimed c) ∙ c.if-not-is_target.true)
 
 pub returns-then-not-sine_ok : goal.returns-then-not-sine_ok
 unfolding new_sine
 returns-then-not-sine_ok c =
-    rw (c.no_sine-none.ensures, yes (aimed-at-2 c) c.if-not-is_target.false, no (tested c) c.if-not-sine_ok.true)
+    rw (c.no_sine-none.ensures, sym (aimed-at-2 c) ∙ c.if-not-is_target.false, sym (tested c) ∙ c.if-not-sine_ok.true)
 
 pub returns : goal.returns
 returns c =
-    let f = c.fits in
-    ap (λ (x : OnNoteSine). record { code = 0; sine-at-3 = x }) (same c.args.shape (to_z-of_z f.target) (to_z-of_z f.low) (to_z-of_z f.high) (to_z-of_z f.length) (to_z-of_z f.times))
-    ∙ made c.args.target c.args.shape c.args.low c.args.high c.args.length c.args.times (yes (aimed-at-3 c) c.if-not-is_target.false) (yes (tested-at-2 c) c.if-not-sine_ok.false)
+    let f = c.ranges in
+    ap (λ (x : OnNoteSine). record { code = 0; sine = x }) (same c.args.shape (to_z-of_z f.target) (to_z-of_z f.low) (to_z-of_z f.high) (to_z-of_z f.length) (to_z-of_z f.times))
+    ∙ made c.args.target c.args.shape c.args.low c.args.high c.args.length c.args.times (sym (aimed-at-3 c) ∙ c.if-not-is_target.false) (sym (tested-at-2 c) ∙ c.if-not-sine_ok.false)

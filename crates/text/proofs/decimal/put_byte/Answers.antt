@@ -2,7 +2,6 @@
 use mathlib.Core.Path.{refl}
 use native.Mathlib.Omega.{arith}
 use Rattle.text.proofs.Laying.{laid-byte}
-use borrow.Author.Rules.{rules}
 use Rattle.text.proofs.decimal.put_byte.Goals as goal
 
 pub returns : goal.returns

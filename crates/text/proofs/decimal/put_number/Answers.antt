@@ -5,7 +5,6 @@ use lib.IntN.{nat_abs}
 use mir.Facts.{to_z-of_z}
 use Rattle.text.specs.Decimals.{decimal, sign_of, number_text}
 use Rattle.text.proofs.Laying.{put-behind}
-use borrow.Author.Rules.{rules}
 use Rattle.text.proofs.decimal.put_number.Goals as goal
 
 pub returns : goal.returns

@@ -4,7 +4,6 @@ use native.Mathlib.Omega.{arith}
 use mir.Facts.{to_z-of_z}
 use Rattle.text.specs.Decimals.{number_text}
 use Rattle.text.proofs.Laying.{put-behind}
-use borrow.Author.Rules.{rules}
 use Rattle.text.proofs.decimal.put_number_then.Goals as goal
 
 pub returns : goal.returns

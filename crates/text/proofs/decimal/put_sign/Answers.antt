@@ -8,7 +8,6 @@ use mir.Facts.{to_z-of_z}
 use Rattle.text.specs.Laying.{laid}
 use Rattle.text.proofs.Laying.{laid_none}
 use Rattle.text.proofs.Sizes.{sign_below, sign_above}
-use borrow.Author.Rules.{rules}
 use Rattle.text.proofs.decimal.put_sign.Goals as goal
 
 pub returns-then-z-lt0 : goal.returns-then-z-lt0

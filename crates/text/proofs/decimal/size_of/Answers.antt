@@ -2,7 +2,6 @@
 use native.Mathlib.Omega.{arith}
 use mir.Facts.{to_z-of_z}
 use mir.Syntax.{w64}
-use borrow.Author.Rules.{rules}
 use Rattle.text.proofs.Sizes.{Below, below, Above, above}
 use Rattle.text.proofs.decimal.size_of.Goals as goal
 

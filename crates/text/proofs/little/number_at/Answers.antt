@@ -5,7 +5,6 @@ use mathlib.Core.Path.{ap, ◌∙◌}
 use mir.Syntax.{w32}
 use mir.Val.{to_z}
 use Rattle.text.specs.Little.{number_at}
-use borrow.Author.Rules.{rules}
 use Rattle.text.proofs.little.number_at.Goals as goal
 
 pub returns : goal.returns

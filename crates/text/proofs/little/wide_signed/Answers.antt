@@ -4,7 +4,6 @@ use Prim.Native.Nat.{◌-◌}
 use mir.Syntax.{w64}
 use mir.Val.{to_z}
 use native.Mathlib.Omega.{arith}
-use borrow.Author.Rules.{rules}
 use Rattle.text.proofs.little.wide_signed.Goals as goal
 
 pub returns : goal.returns

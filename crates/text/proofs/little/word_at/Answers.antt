@@ -5,7 +5,6 @@ use mathlib.Core.Path.{ap, ◌∙◌}
 use mir.Syntax.{w64}
 use mir.Val.{to_z}
 use Rattle.text.specs.Little.{word_at}
-use borrow.Author.Rules.{rules}
 use Rattle.text.proofs.little.word_at.Goals as goal
 
 pub returns : goal.returns

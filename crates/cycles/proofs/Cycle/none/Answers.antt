@@ -1,9 +1,0 @@
--- `Cycle::none`: the empty list stands in it.
-use mathlib.Core.Path.{ap}
-use borrow.Author.Rules.{rules}
-use lib.IntN.{pos}
-use Rattle.counted.specs.declared.Numbers.{Numbers}
-use Rattle.cycles.proofs.Cycle.none.Goals as goal
-
-pub returns : goal.returns
-returns c = ap (λ (v : Numbers). record { target = pos 0; length = pos 0; next = pos 0; index = 0; values = v }) c.empty-values.ensures
