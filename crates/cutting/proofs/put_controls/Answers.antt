@@ -1,5 +1,4 @@
 -- `put_controls` meets its contract: what is left to be put, put, would make the list that is asked for (`Putting`).
-use borrow.Author.Rules.{rules}
 use mathlib.Core.Path.{◌≡◌, sym, ap, ◌∙◌}
 use mathlib.Core.Bool.{false}
 use mathlib.Core.List.{List, [], ◌∷◌}
