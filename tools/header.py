@@ -31,10 +31,6 @@ def homes_of(text):
     return {s: c for c, names in re.findall(r'^(?:pub )?use (\w+)::([^;]*);', text, re.M) for s in re.findall(r'\w+', names)}
 
 
-def crates():
-    return [l.split(':')[0] for l in open('crates.txt') if ':' in l and not l.startswith('#')]
-
-
 class Library:
     """The exported functions, as (name, comment, parameters, result), the title that some stand under, and the structs that their
     types reach, inner ones first."""
