@@ -185,14 +185,14 @@ def rust(lib):
     return '\n'.join(out[:-1] + ['}', ''])
 
 
-TYPES = ['(ty_int w)', 'ty_bool', '(ty_float f)', 'ty_ptr', '(ty_ref κ μ τ)', '(ty_array τ n)', 'ty_unit', '(ty_enum ν τss)', '(ty_named ν)']
+TYPES = ['(ty_int w)', 'ty_bool', '(ty_float f)', 'ty_ptr', '(ty_ref κ μ τ)', '(ty_array τ n)', 'ty_unit', '(ty_enum ν τss)', '(ty_param n)', '(ty_const n)', '(ty_array_p τ n)', '(ty_named ν τs)']
 
 
 def theorems(lib):
     out = ['-- Where the fields of each record lie that the library is handed or hands out, as the machine has them: its size, its alignment, and the place',
            '-- of each field. include/dollavir.h asserts the same numbers of the same records. Made by tools/header.py.',
            'use mathlib.Core.Path.{◌≡◌, refl}', 'use mathlib.Core.List.{List, [], ◌∷◌}', 'use Prim.Native.Nat.{ℕ, zero, ◌+◌}',
-           'use mir.Syntax.{Ty, Tys, tnil, tcons, ty_int, ty_bool, ty_float, ty_ptr, ty_ref, ty_array, ty_unit, ty_struct, ty_enum, ty_named}', 'use prog.Memory.{size, align, up}']
+           'use mir.Syntax.{Ty, Tys, tnil, tcons, ty_int, ty_bool, ty_float, ty_ptr, ty_ref, ty_array, ty_unit, ty_struct, ty_enum, ty_param, ty_const, ty_array_p, ty_named}', 'use prog.Memory.{size, align, up}']
     for name, (crate, _, _) in lib.structs.items():
         out.append(f"use Rattle.{crate}.proofs.{name}.TheLaws as {name}'")
     out += ['', '-- the place of each field, where the first may stand at k', 'abbrev pub places : ℕ → Tys → List ℕ', 'places k tnil = []',

@@ -11,4 +11,4 @@ use Rattle.ctrack.proofs.dollavir_sine_type.Goals as goal
 pub returns : goal.returns
 returns c =
     c.shape_of.ensures ∙ ap number_of (kind-told (to_z w64 (of_z w64 c.widened-wide.result)) c.from_i-kind.result c.from_i-kind.ensures
-    ∙ ap sine_type (to_z-of_z {c = w64} (sfits_of c.widened-wide.type_inv) ∙ (rw (to_z-of_z c.ranges.v) at c.widened-wide.ensures.0)))
+    ∙ ap sine_type (to_z-of_z {w = w64} (sfits_of c.widened-wide.type_inv) ∙ (rw (to_z-of_z c.ranges.v) at c.widened-wide.ensures.0)))
