@@ -1,6 +1,5 @@
 -- `move_records`: each turn is one of the walk's (Turns).
 use mathlib.Core.Path.{ap}
-use native.Mathlib.Omega.{arith}
 use borrow.Author.Rules.{rules}
 use Rattle.lending.specs.declared.Moved.{Moved}
 use Rattle.lending.specs.Moving.{past, moved, carried}

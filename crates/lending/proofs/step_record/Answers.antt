@@ -1,5 +1,4 @@
 -- `step_record`: the tests (Stepping), and then one record's run, which for a whole number of records says every number of the list.
-use borrow.Author.Rules.{rules}
 use mathlib.Core.Path.{◌≡◌, sym, ap, ◌∙◌}
 use Prim.Native.Nat.{ℕ}
 use lib.ListN.{length}

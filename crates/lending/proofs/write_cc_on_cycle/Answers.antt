@@ -1,5 +1,4 @@
 -- `write_cc_on_cycle`: the lent records are loaded for the tests, and then advanced in place (InPlace).
-use borrow.Author.Rules.{rules}
 use mir.Facts.{to_z-of_z}
 use Rattle.lending.proofs.InPlace.{lent-call}
 use Rattle.lending.proofs.write_cc_on_cycle.Goals as goal

@@ -3,7 +3,7 @@ use mathlib.Core.Path.{◌≡◌, sym, ap₂, ◌∙◌}
 use mir.Syntax.{w32, w64}
 use mir.Val.{SFits}
 use mir.Facts.{to_z-of_z}
-use borrow.Author.Rules.{rules, sfits_of}
+use borrow.Author.Rules.{sfits_of}
 use Rattle.counted.specs.Numbers.{shown}
 use Rattle.counted.specs.Curves.{triples}
 use Rattle.reserved.specs.declared.Since.TheVariants.{Before, Steps}

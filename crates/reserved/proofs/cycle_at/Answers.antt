@@ -11,7 +11,7 @@ use lib.ListN.{get_or}
 use mir.Syntax.{w32, w64}
 use mir.Val.{SFits}
 use mir.Facts.{to_z-of_z}
-use borrow.Author.Rules.{rules, sfits_of}
+use borrow.Author.Rules.{sfits_of}
 use Rattle.laws.specs.Integers.{cut}
 use Rattle.numbers.specs.Limits.{list_limit}
 use Rattle.counted.proofs.Counted.{numbers-count}

@@ -7,7 +7,6 @@ use Rattle.laws.proofs.Ranges.{left, right}
 use Rattle.laws.proofs.Tests.{is_at, both}
 use Rattle.numbers.specs.Ranges.{is_time}
 use Rattle.reserved.specs.Cycle.{ok_cycle, calc_of}
-use borrow.Author.Rules.{rules}
 use Rattle.reserved.proofs.OnCycleTime.calc.Goals as goal
 
 tested : (c : goal.Then-not-a-b) → (c.cycle_ok-a.result && c.is_time-b.result) ≡ (ok_cycle c.args.self && is_time c.args.timepos)
