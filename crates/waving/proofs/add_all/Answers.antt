@@ -1,7 +1,7 @@
 -- What was added, and what the rest come to, is what all come to (`Putting`).
-use mathlib.Core.Path.{◌≡◌, refl, ap, ap₂, ◌∙◌}
+use mathlib.Core.Path.{ap, ap₂, ◌∙◌}
 use mathlib.Core.List.{List}
-use Prim.Native.Nat.{ℕ, ◌+◌, ◌-◌, ◌≤◌, ◌<◌, ◌^◌}
+use Prim.Native.Nat.{ℕ, ◌+◌, ◌≤◌, ◌<◌}
 use native.Mathlib.Omega.{arith}
 use borrow.Author.Tests.{ltb-true}
 use lib.ListN.{length}
@@ -14,7 +14,7 @@ use Rattle.writing.specs.declared.Outcome.{Outcome}
 use Rattle.state.proofs.Stored.{waves-few, sines-few}
 use Rattle.waving.specs.Drawings.{drawings_of}
 use Rattle.waving.proofs.Places.{drawings-long, next-drawing}
-use Rattle.waving.proofs.Passing.{Putting, ended, put-begun, put_ended, put-room, put-further, drafts-news, drafts-budget}
+use Rattle.waving.proofs.Passing.{ended, put_ended, put-room, put-further, drafts-news, drafts-budget}
 use Rattle.waving.proofs.add_all.Goals.{Start, In-loop-i}
 use Rattle.waving.proofs.add_all.Goals as goal
 

@@ -1,11 +1,10 @@
 -- What was planned, and what the rest comes to, is what all come to (`Passing`); the windows are laid down one after the other.
-use mathlib.Core.Path.{◌≡◌, refl, sym, ap, ◌∙◌}
+use mathlib.Core.Path.{◌≡◌, sym, ap, ◌∙◌}
 use mathlib.Core.List.{◌++◌, append-nil}
-use Prim.Native.Nat.{◌+◌, ◌-◌, ◌*◌, ◌≤◌, ◌<◌, ◌^◌}
+use Prim.Native.Nat.{◌+◌, ◌*◌, ◌≤◌, ◌<◌}
 use native.Mathlib.Omega.{arith}
-use borrow.Author.Rules.{rules}
 use borrow.Author.Tests.{ltb-true}
-use lib.ListN.{length, take, drop}
+use lib.ListN.{length, take}
 use Rattle.laws.proofs.Ranges.{left}
 use Rattle.budget.specs.declared.Budget.{Budget}
 use Rattle.counted.specs.Numbers.{shown}
@@ -18,7 +17,7 @@ use Rattle.waving.specs.Drawings.{drawings_of}
 use Rattle.waving.specs.Passes.{Passes, passes}
 use Rattle.waving.proofs.Places.{drawings-long, next-drawing}
 use Rattle.waving.proofs.Clearing.{first-windows}
-use Rattle.waving.proofs.Passing.{Passing, begun, ended, further, window-further, stops, pass-used, drafts-budget, drafts-window}
+use Rattle.waving.proofs.Passing.{ended, further, window-further, stops, pass-used, drafts-budget, drafts-window}
 use Rattle.waving.proofs.plan_of.Goals.{Start, In-loop-i, After-loop-i}
 use Rattle.waving.proofs.plan_of.Goals as goal
 
