@@ -1,3 +1,1 @@
-pub mod Known
 pub mod Places
-pub mod Walks

@@ -1,4 +1,4 @@
-// The calls as a C program makes them, by the names of docs/API.md after `dollavir_`. A record that a call changes is lent by `&mut`, one
+// The calls as a C program makes them, by the names of docs/API.md after `dollavir_`; the static library ctrack_c exports each under its name. A record that a call changes is lent by `&mut`, one
 // that it reads by `&`; what a call answers besides its number goes to where its last parameters point. The number is that of
 // document 01's table. Refused, all that is lent stays as it is, and a value that is answered is 0. Written by tools/ctrack.py.
 #![tactic(auto)]
@@ -349,40 +349,35 @@ fn cycle_time_calc(cycle: OnCycleTime, timepos: i64) -> CycleTold
 // ---- new records: a track, a budget, an unused cycle, an option, a sine, a cycle over time
 // A track at time 0 with nothing set; the channel is clamped to 0..15. Refuses 4, and then hands back a track of
 // timebase 0, which no call takes.
-#[unsafe(no_mangle)]
-pub extern "C" fn dollavir_track_new(timebase: i32, channel: i32) -> TrackAnswer
+pub fn dollavir_track_new(timebase: i32, channel: i32) -> TrackAnswer
     ensures { result ≡ new_of timebase channel }
 {
     Track::new(timebase, channel)
 }
 
 // Nothing used yet, the flag clear. Refuses 4, and then hands back a budget of zeros.
-#[unsafe(no_mangle)]
-pub extern "C" fn dollavir_budget_new(seed: u32, maximum: u32) -> BudgetAnswer
+pub fn dollavir_budget_new(seed: u32, maximum: u32) -> BudgetAnswer
     ensures { result ≡ new_budget seed maximum }
 {
     Budget::new(seed, maximum)
 }
 
 // What an unused place of a table of cycles holds.
-#[unsafe(no_mangle)]
-pub extern "C" fn dollavir_cycle_none() -> Cycle
+pub fn dollavir_cycle_none() -> Cycle
     ensures { result ≡ no_cycle }
 {
     Cycle::none()
 }
 
 // No delay, no random, no range, no repeat.
-#[unsafe(no_mangle)]
-pub extern "C" fn dollavir_write_option_new() -> WriteOption
+pub fn dollavir_write_option_new() -> WriteOption
     ensures { result ≡ new_option }
 {
     WriteOption::new()
 }
 
 // A sine for a target's notes. Refuses 2, 4, and then hands back a sine of zeros.
-#[unsafe(no_mangle)]
-pub extern "C" fn dollavir_on_note_sine_new(
+pub fn dollavir_on_note_sine_new(
     target: i32,
     shape: u32,
     low: i32,
@@ -396,8 +391,7 @@ pub extern "C" fn dollavir_on_note_sine_new(
 }
 
 // A cycle over time of its own. Refuses 3, 4, and then hands back a cycle of zeros.
-#[unsafe(no_mangle)]
-pub extern "C" fn dollavir_cycle_time_new(start: i64, len: i32, values: &[i32]) -> CycleTimeAnswer
+pub fn dollavir_cycle_time_new(start: i64, len: i32, values: &[i32]) -> CycleTimeAnswer
     ensures { result ≡ new_cycle_time start len values.now }
 {
     OnCycleTime::new(start, len, values)
@@ -405,8 +399,7 @@ pub extern "C" fn dollavir_cycle_time_new(start: i64, len: i32, values: &[i32]) 
 
 // ---- a number in a range
 // Below `low` gives `low`, otherwise above `high` gives `high`, whichever of the two is the greater.
-#[unsafe(no_mangle)]
-pub extern "C" fn dollavir_value_range(low: i64, v: i64, high: i64) -> i64
+pub fn dollavir_value_range(low: i64, v: i64, high: i64) -> i64
     ensures { result ≡ range_of low v high }
 {
     numbers::value_range(low, v, high)
@@ -414,8 +407,7 @@ pub extern "C" fn dollavir_value_range(low: i64, v: i64, high: i64) -> i64
 
 // ---- the track's own numbers
 // Where the track stands: the time of what is written next. Refuses 4.
-#[unsafe(no_mangle)]
-pub extern "C" fn dollavir_set_timepos(track: &mut Track, timepos: i64) -> u32
+pub fn dollavir_set_timepos(track: &mut Track, timepos: i64) -> u32
     ensures { TrackLeft (set_timepos track.old timepos) result track.new }
 {
     let r = state::set_timepos(*track, timepos);
@@ -424,8 +416,7 @@ pub extern "C" fn dollavir_set_timepos(track: &mut Track, timepos: i64) -> u32
 }
 
 // The channel of what is written next; outside 0..15 it is not clamped here. Refuses 4.
-#[unsafe(no_mangle)]
-pub extern "C" fn dollavir_set_channel(track: &mut Track, channel: i32) -> u32
+pub fn dollavir_set_channel(track: &mut Track, channel: i32) -> u32
     ensures { TrackLeft (set_channel track.old channel) result track.new }
 {
     let r = state::set_channel(*track, channel);
@@ -434,8 +425,7 @@ pub extern "C" fn dollavir_set_channel(track: &mut Track, channel: i32) -> u32
 }
 
 // How many steps apart a controller's curve is written. Refuses 4.
-#[unsafe(no_mangle)]
-pub extern "C" fn dollavir_set_cc_on_time_freq(track: &mut Track, freq: i32) -> u32
+pub fn dollavir_set_cc_on_time_freq(track: &mut Track, freq: i32) -> u32
     ensures { TrackLeft (set_cc_freq track.old freq) result track.new }
 {
     let r = state::set_cc_on_time_freq(*track, freq);
@@ -444,8 +434,7 @@ pub extern "C" fn dollavir_set_cc_on_time_freq(track: &mut Track, freq: i32) -> 
 }
 
 // The same of a bend's curve. Refuses 4.
-#[unsafe(no_mangle)]
-pub extern "C" fn dollavir_set_pb_on_time_freq(track: &mut Track, freq: i32) -> u32
+pub fn dollavir_set_pb_on_time_freq(track: &mut Track, freq: i32) -> u32
     ensures { TrackLeft (set_pb_freq track.old freq) result track.new }
 {
     let r = state::set_pb_on_time_freq(*track, freq);
@@ -455,12 +444,7 @@ pub extern "C" fn dollavir_set_pb_on_time_freq(track: &mut Track, freq: i32) -> 
 
 // ---- a target's option
 // What is set for a target. Leaves it in `option`, with nothing set where it refuses. Refuses 2, 4.
-#[unsafe(no_mangle)]
-pub extern "C" fn dollavir_get_write_opt(
-    track: &Track,
-    target: i32,
-    option: &mut WriteOption,
-) -> u32
+pub fn dollavir_get_write_opt(track: &Track, target: i32, option: &mut WriteOption) -> u32
     ensures { OptionTold (option_for track.now target) result option.new }
 {
     let r = drawing::get_write_opt(*track, target);
@@ -469,8 +453,7 @@ pub extern "C" fn dollavir_get_write_opt(
 }
 
 // How many steps later a target's events stand. Refuses 2, 4.
-#[unsafe(no_mangle)]
-pub extern "C" fn dollavir_set_delay(track: &mut Track, target: i32, delay: i32) -> u32
+pub fn dollavir_set_delay(track: &mut Track, target: i32, delay: i32) -> u32
     ensures { TrackLeft (set_delay track.old target delay) result track.new }
 {
     let r = drawing::set_delay(*track, target, delay);
@@ -479,8 +462,7 @@ pub extern "C" fn dollavir_set_delay(track: &mut Track, target: i32, delay: i32)
 }
 
 // How far random moves a target's values; 0 or less is off. Refuses 2, 4.
-#[unsafe(no_mangle)]
-pub extern "C" fn dollavir_set_random(track: &mut Track, target: i32, random: i32) -> u32
+pub fn dollavir_set_random(track: &mut Track, target: i32, random: i32) -> u32
     ensures { TrackLeft (set_random track.old target random) result track.new }
 {
     let r = drawing::set_random(*track, target, random);
@@ -489,8 +471,7 @@ pub extern "C" fn dollavir_set_random(track: &mut Track, target: i32, random: i3
 }
 
 // The range to which a target's values are limited. Refuses 2, 4.
-#[unsafe(no_mangle)]
-pub extern "C" fn dollavir_set_range(track: &mut Track, target: i32, low: i32, high: i32) -> u32
+pub fn dollavir_set_range(track: &mut Track, target: i32, low: i32, high: i32) -> u32
     ensures { TrackLeft (set_range track.old target low high) result track.new }
 {
     let r = drawing::set_range(*track, target, low, high);
@@ -499,8 +480,7 @@ pub extern "C" fn dollavir_set_range(track: &mut Track, target: i32, low: i32, h
 }
 
 // A target's values are limited no more. Refuses 2, 4.
-#[unsafe(no_mangle)]
-pub extern "C" fn dollavir_clear_range(track: &mut Track, target: i32) -> u32
+pub fn dollavir_clear_range(track: &mut Track, target: i32) -> u32
     ensures { TrackLeft (clear_range track.old target) result track.new }
 {
     let r = drawing::clear_range(*track, target);
@@ -509,8 +489,7 @@ pub extern "C" fn dollavir_clear_range(track: &mut Track, target: i32) -> u32
 }
 
 // Whether a target's lists for notes go round, 0 or 1; it reaches the list that is stored too. Refuses 2, 4.
-#[unsafe(no_mangle)]
-pub extern "C" fn dollavir_set_repeat(track: &mut Track, target: i32, on: u32) -> u32
+pub fn dollavir_set_repeat(track: &mut Track, target: i32, on: u32) -> u32
     ensures { TrackLeft (set_repeat track.old target on) result track.new }
 {
     let r = drawing::set_repeat(*track, target, on);
@@ -522,8 +501,7 @@ pub extern "C" fn dollavir_set_repeat(track: &mut Track, target: i32, on: u32) -
 // Writes a curve at the track's time: `list` is triples of a low, a high and a length. Answers the new count and the
 // budget; the target's events within the curve's length are taken out, the new ones stand behind the others. Refuses
 // 1, 2, 3, 4, 7.
-#[unsafe(no_mangle)]
-pub extern "C" fn dollavir_write_on_time(
+pub fn dollavir_write_on_time(
     track: &Track,
     target: i32,
     list: &[i32],
@@ -543,8 +521,7 @@ pub extern "C" fn dollavir_write_on_time(
 }
 
 // `write_on_time` of a controller by its number. Refuses 1, 2, 3, 4, 7.
-#[unsafe(no_mangle)]
-pub extern "C" fn dollavir_write_cc_on_time(
+pub fn dollavir_write_cc_on_time(
     track: &Track,
     number: i32,
     list: &[i32],
@@ -564,8 +541,7 @@ pub extern "C" fn dollavir_write_cc_on_time(
 }
 
 // `write_on_time` of the bend. Refuses 1, 3, 4, 7.
-#[unsafe(no_mangle)]
-pub extern "C" fn dollavir_write_pb_on_time(
+pub fn dollavir_write_pb_on_time(
     track: &Track,
     big: i32,
     list: &[i32],
@@ -587,8 +563,7 @@ pub extern "C" fn dollavir_write_pb_on_time(
 // Writes a sine at the track's time, `times` turns of `len` steps from `low` to `high`; `shape` is 0 for a full turn,
 // 1 and 2 for the quarter up and down. Answers and leaves as `write_on_time`; a length of 0 or less changes nothing,
 // times of 0 or less count once. Refuses 1, 2, 4, 7.
-#[unsafe(no_mangle)]
-pub extern "C" fn dollavir_write_sine(
+pub fn dollavir_write_sine(
     track: &Track,
     target: i32,
     shape: u32,
@@ -615,12 +590,7 @@ pub extern "C" fn dollavir_write_sine(
 
 // ---- what is reserved for a target
 // Takes out the reservations of a target, of all four kinds. Answers the track. Refuses 1, 2, 4.
-#[unsafe(no_mangle)]
-pub extern "C" fn dollavir_remove_reserve(
-    track: &mut Track,
-    cycles: &mut [Cycle],
-    target: i32,
-) -> u32
+pub fn dollavir_remove_reserve(track: &mut Track, cycles: &mut [Cycle], target: i32) -> u32
     ensures { Reserved (remove_reserve track.old (length cycles.old) cycles.old target) result track.new cycles.new }
 {
     let r = loans::remove_reserve(*track, cycles, target);
@@ -630,8 +600,7 @@ pub extern "C" fn dollavir_remove_reserve(
 
 // Reserves a list of numbers for a target, one for each note, in place of what is reserved for it. Answers the track.
 // Refuses 1, 2, 3, 4, 6.
-#[unsafe(no_mangle)]
-pub extern "C" fn dollavir_set_on_note(
+pub fn dollavir_set_on_note(
     track: &mut Track,
     cycles: &mut [Cycle],
     target: i32,
@@ -647,8 +616,7 @@ pub extern "C" fn dollavir_set_on_note(
 
 // Reserves a wave for a target: `list` is triples of a low, a high and a length. Answers the track. Refuses 1, 2, 3,
 // 4, 6.
-#[unsafe(no_mangle)]
-pub extern "C" fn dollavir_set_on_note_wave(
+pub fn dollavir_set_on_note_wave(
     track: &mut Track,
     cycles: &mut [Cycle],
     target: i32,
@@ -664,8 +632,7 @@ pub extern "C" fn dollavir_set_on_note_wave(
 }
 
 // Reserves a sine for a target, which it must name. Answers the track. Refuses 1, 2, 4, 6.
-#[unsafe(no_mangle)]
-pub extern "C" fn dollavir_set_on_note_sine(
+pub fn dollavir_set_on_note_sine(
     track: &mut Track,
     cycles: &mut [Cycle],
     target: i32,
@@ -682,8 +649,7 @@ pub extern "C" fn dollavir_set_on_note_sine(
 // Reserves a cycle of `list` for a target, one number every `len` steps from the track's time on; it comes last in
 // the table. A length of 0 or less, or no number, only takes the target's reservations out. Answers the track.
 // Refuses 1, 2, 3, 4, 6.
-#[unsafe(no_mangle)]
-pub extern "C" fn dollavir_set_on_cycle(
+pub fn dollavir_set_on_cycle(
     track: &mut Track,
     cycles: &mut [Cycle],
     target: i32,
@@ -699,8 +665,7 @@ pub extern "C" fn dollavir_set_on_cycle(
 }
 
 // The older calls. `remove_reserve` of a controller. Refuses 1, 2, 4.
-#[unsafe(no_mangle)]
-pub extern "C" fn dollavir_remove_cc_on(track: &mut Track, cycles: &mut [Cycle], number: i32) -> u32
+pub fn dollavir_remove_cc_on(track: &mut Track, cycles: &mut [Cycle], number: i32) -> u32
     ensures { Reserved (remove_cc_on track.old (length cycles.old) cycles.old number) result track.new cycles.new }
 {
     let target = drawing::cc_target(number);
@@ -710,8 +675,7 @@ pub extern "C" fn dollavir_remove_cc_on(track: &mut Track, cycles: &mut [Cycle],
 }
 
 // `set_on_note` of a controller. Refuses 1, 2, 3, 4, 6.
-#[unsafe(no_mangle)]
-pub extern "C" fn dollavir_set_cc_on_note(
+pub fn dollavir_set_cc_on_note(
     track: &mut Track,
     cycles: &mut [Cycle],
     number: i32,
@@ -727,8 +691,7 @@ pub extern "C" fn dollavir_set_cc_on_note(
 }
 
 // `set_on_note_wave` of a controller, the wave used as it is. Refuses 1, 2, 3, 4, 6.
-#[unsafe(no_mangle)]
-pub extern "C" fn dollavir_set_cc_on_note_wave(
+pub fn dollavir_set_cc_on_note_wave(
     track: &mut Track,
     cycles: &mut [Cycle],
     number: i32,
@@ -745,8 +708,7 @@ pub extern "C" fn dollavir_set_cc_on_note_wave(
 }
 
 // `set_on_note_wave` of a bend by its argument, the wave used as it is. Refuses 1, 3, 4, 6.
-#[unsafe(no_mangle)]
-pub extern "C" fn dollavir_set_pb_on_note_wave(
+pub fn dollavir_set_pb_on_note_wave(
     track: &mut Track,
     cycles: &mut [Cycle],
     big: i32,
@@ -763,8 +725,7 @@ pub extern "C" fn dollavir_set_pb_on_note_wave(
 }
 
 // `remove_reserve` of both bends. Refuses 1, 4.
-#[unsafe(no_mangle)]
-pub extern "C" fn dollavir_remove_pb_on_note_wave(track: &mut Track, cycles: &mut [Cycle]) -> u32
+pub fn dollavir_remove_pb_on_note_wave(track: &mut Track, cycles: &mut [Cycle]) -> u32
     ensures { Reserved (remove_pb_on_note_wave track.old (length cycles.old) cycles.old) result track.new cycles.new }
 {
     let target = bend();
@@ -774,8 +735,7 @@ pub extern "C" fn dollavir_remove_pb_on_note_wave(track: &mut Track, cycles: &mu
 }
 
 // No list for notes stays reserved for a controller; what is of another kind stays. Refuses 2, 4.
-#[unsafe(no_mangle)]
-pub extern "C" fn dollavir_remove_cc_on_note(track: &mut Track, number: i32) -> u32
+pub fn dollavir_remove_cc_on_note(track: &mut Track, number: i32) -> u32
     ensures { TrackLeft (remove_cc_on_note track.old number) result track.new }
 {
     let r = reserving::remove_cc_on_note(*track, number);
@@ -784,8 +744,7 @@ pub extern "C" fn dollavir_remove_cc_on_note(track: &mut Track, number: i32) -> 
 }
 
 // No wave and no sine stays reserved for a controller; what is of another kind stays. Refuses 2, 4.
-#[unsafe(no_mangle)]
-pub extern "C" fn dollavir_remove_cc_on_note_wave(track: &mut Track, number: i32) -> u32
+pub fn dollavir_remove_cc_on_note_wave(track: &mut Track, number: i32) -> u32
     ensures { TrackLeft (remove_cc_on_note_wave track.old number) result track.new }
 {
     let r = reserving::remove_cc_on_note_wave(*track, number);
@@ -798,8 +757,7 @@ pub extern "C" fn dollavir_remove_cc_on_note_wave(track: &mut Track, number: i32
 // each list that wrote is one further. Answers the count, the budget and the track afterwards. A write that does not
 // fit sets the flag and ends the call; else lists that are used up and do not go round are taken out. Refuses 1, 4,
 // 7; then all is left as it is.
-#[unsafe(no_mangle)]
-pub extern "C" fn dollavir_write_cc_on_note(
+pub fn dollavir_write_cc_on_note(
     track: &mut Track,
     start: i64,
     budget: &mut Budget,
@@ -821,8 +779,7 @@ pub extern "C" fn dollavir_write_cc_on_note(
 // track's time; they stop once the flag is set. Answers the count of events and the budget after them, and leaves the
 // events in the list; the track stays as it is. Refuses 1, 4, 7; then list, count and budget are those that were
 // handed in.
-#[unsafe(no_mangle)]
-pub extern "C" fn dollavir_write_cc_on_note_wave(
+pub fn dollavir_write_cc_on_note_wave(
     track: &Track,
     start: i64,
     budget: &mut Budget,
@@ -843,8 +800,7 @@ pub extern "C" fn dollavir_write_cc_on_note_wave(
 // Makes the writes of the track's cycles that are due up to `until`, as `cycling::write_cc_on_cycle` does, over a
 // cycle table and a budget that are lent: the records are advanced in place. Answers the new count. Refuses 1, 4, 7;
 // then all that was lent is left.
-#[unsafe(no_mangle)]
-pub extern "C" fn dollavir_write_cc_on_cycle(
+pub fn dollavir_write_cc_on_cycle(
     track: &Track,
     cycles: &mut [Cycle],
     until: i64,
@@ -864,8 +820,7 @@ pub extern "C" fn dollavir_write_cc_on_cycle(
 // ---- a controller's value
 // The value of controller `number` on the track's channel at its time: that of the last such event in list order at
 // or before it, or the controller's default. Leaves it in `value`, 0 where it refuses. Refuses 1, 2, 4.
-#[unsafe(no_mangle)]
-pub extern "C" fn dollavir_current_cc_value(
+pub fn dollavir_current_cc_value(
     track: &Track,
     number: i32,
     events: &[i64],
@@ -883,8 +838,7 @@ pub extern "C" fn dollavir_current_cc_value(
 // ---- the event list
 // Takes out the bends from `start` to `end`, that time included. Answers the new count; the others keep their order,
 // and the places that fall vacant are zeroed. Refuses 1, 4; then the list is left as it is.
-#[unsafe(no_mangle)]
-pub extern "C" fn dollavir_remove_pitch_bend_in_range(
+pub fn dollavir_remove_pitch_bend_in_range(
     events: &mut [i64],
     count: &mut usize,
     start: i64,
@@ -902,8 +856,7 @@ pub extern "C" fn dollavir_remove_pitch_bend_in_range(
 
 // Sorts the list by time; events of one time keep their order. Answers 0, or refuses 1, 4; then the list is left as
 // it is.
-#[unsafe(no_mangle)]
-pub extern "C" fn dollavir_events_sort(events: &mut [i64], count: usize, store: &[u8]) -> u32
+pub fn dollavir_events_sort(events: &mut [i64], count: usize, store: &[u8]) -> u32
     ensures { (result ≡ sort_refusal (length store.now) events.old count) × (events.new ≡ sort_left (length store.now) events.old count) }
 {
     sorting::events_sort(events, count, store)
@@ -912,8 +865,7 @@ pub extern "C" fn dollavir_events_sort(events: &mut [i64], count: usize, store: 
 // Puts the list's events at the front of `out`, after each note its end, and leaves their number in `out_count`.
 // Beyond them `out` is left as it is. Refuses 1, 4, 7; then all of `out` is left as it is, and `out_count` is
 // `count`.
-#[unsafe(no_mangle)]
-pub extern "C" fn dollavir_split_note_off(
+pub fn dollavir_split_note_off(
     events: &[i64],
     count: usize,
     out: &mut [i64],
@@ -931,8 +883,7 @@ pub extern "C" fn dollavir_split_note_off(
 
 // Puts after each note of the list its end, and answers the new count. Refuses 1, 4, 7; then the list is left as it
 // is.
-#[unsafe(no_mangle)]
-pub extern "C" fn dollavir_normalize(events: &mut [i64], count: &mut usize, store: &[u8]) -> u32
+pub fn dollavir_normalize(events: &mut [i64], count: &mut usize, store: &[u8]) -> u32
     ensures { ListLeft (split_taken (length store.now) events.old count.old events.old)
         (split_left (length store.now) events.old count.old events.old count.old)
         result count.new events.new }
@@ -945,13 +896,7 @@ pub extern "C" fn dollavir_normalize(events: &mut [i64], count: &mut usize, stor
 // Cuts off what is before `cut`: the events that are kept count their time from it, and after them stand, at time 0,
 // the controllers and the program as they were by the last of each in list order. Answers the new count; the places
 // that fall vacant are zeroed. Refuses 1, 4; then the list is left as it is.
-#[unsafe(no_mangle)]
-pub extern "C" fn dollavir_play_from(
-    events: &mut [i64],
-    count: &mut usize,
-    cut: i64,
-    store: &[u8],
-) -> u32
+pub fn dollavir_play_from(events: &mut [i64], count: &mut usize, cut: i64, store: &[u8]) -> u32
     ensures { ListLeft (cut_taken (length store.now) events.old count.old (plain cut))
         (cut_left (length store.now) events.old count.old (plain cut))
         result count.new events.new }
@@ -966,13 +911,7 @@ pub extern "C" fn dollavir_play_from(
 // equal times the later in the list; the channel is that of the latest controller or program. A negative value of the
 // latest unsets, but a bend counts whatever its value, on its own channel. Answers the new count; the places that
 // fall vacant are zeroed. Refuses 1, 4; then the list is left as it is.
-#[unsafe(no_mangle)]
-pub extern "C" fn dollavir_full_cut(
-    events: &mut [i64],
-    count: &mut usize,
-    cut: i64,
-    store: &[u8],
-) -> u32
+pub fn dollavir_full_cut(events: &mut [i64], count: &mut usize, cut: i64, store: &[u8]) -> u32
     ensures { ListLeft (cut_taken (length store.now) events.old count.old (whole cut))
         (cut_left (length store.now) events.old count.old (whole cut))
         result count.new events.new }
@@ -988,8 +927,7 @@ pub extern "C" fn dollavir_full_cut(
 // `out` behind them is left. Refuses 1, 4; 10 a list that is not in order, whose first time is below 0 or that has a
 // gap above 268,435,455; 11 a kind that is not written, or a field outside its width; 12 an output that is too short.
 // Then all of `out` is left as it is.
-#[unsafe(no_mangle)]
-pub extern "C" fn dollavir_write_chunk(
+pub fn dollavir_write_chunk(
     events: &[i64],
     count: usize,
     store: &[u8],
@@ -1011,8 +949,7 @@ pub extern "C" fn dollavir_write_chunk(
 // many events the list has. Refuses 1; 13 bytes that are no track chunk, or not as many as it says; 14 an event that
 // is cut short or faulty; 15 no end of track, or bytes behind it; 7; 4 an event later than 2^42. Then the list and
 // the count are left as they are.
-#[unsafe(no_mangle)]
-pub extern "C" fn dollavir_read_chunk(chunk: &[u8], events: &mut [i64], count: &mut usize) -> u32
+pub fn dollavir_read_chunk(chunk: &[u8], events: &mut [i64], count: &mut usize) -> u32
     ensures { ListLeft (read_taken chunk.now events.old count.old)
         (read_left chunk.now events.old count.old)
         result count.new events.new }
@@ -1026,13 +963,7 @@ pub extern "C" fn dollavir_read_chunk(chunk: &[u8], events: &mut [i64], count: &
 // Leaves in `yes` whether the rehearsal player accepts the list: 1 where its controllers are 1, 7, 10, 11 and 64
 // only, at most one of each at a time, its bends 0 to 16,383, all its events but Meta, SysEx and DirectSMF on one
 // channel, and its times from 0 on and never falling; else 0, as where it refuses. Refuses 1, 4.
-#[unsafe(no_mangle)]
-pub extern "C" fn dollavir_check_profile(
-    events: &[i64],
-    count: usize,
-    store: &[u8],
-    yes: &mut u32,
-) -> u32
+pub fn dollavir_check_profile(events: &[i64], count: usize, store: &[u8], yes: &mut u32) -> u32
     ensures { ProfileTold (check_answer (length store.now) events.now count) result yes.new }
 {
     let r = profile::check_profile(events, count, store);
@@ -1045,8 +976,7 @@ pub extern "C" fn dollavir_check_profile(
 // Leaves the new count in `count`; the places that fall vacant are zeroed. Refuses 1, 4, then 17 more than one
 // channel (Meta, SysEx and DirectSMF not counted), then 18 a time below 0, each asked of the list handed in; then the
 // list and the count are left as they are.
-#[unsafe(no_mangle)]
-pub extern "C" fn dollavir_fit_profile(events: &mut [i64], count: &mut usize, store: &[u8]) -> u32
+pub fn dollavir_fit_profile(events: &mut [i64], count: &mut usize, store: &[u8]) -> u32
     ensures { ListLeft (fit_taken (length store.now) events.old count.old)
         (fit_left (length store.now) events.old count.old)
         result count.new events.new }
@@ -1059,8 +989,7 @@ pub extern "C" fn dollavir_fit_profile(events: &mut [i64], count: &mut usize, st
 // ---- the track's parameters and layers
 // A note's velocity at the track's time, of the curve or cycle that is reserved, or the default; a curve that is over
 // goes. Leaves it in `value`, 0 where it refuses. Refuses 4.
-#[unsafe(no_mangle)]
-pub extern "C" fn dollavir_calc_v_on_time(track: &mut Track, def: i32, value: &mut i32) -> u32
+pub fn dollavir_calc_v_on_time(track: &mut Track, def: i32, value: &mut i32) -> u32
     ensures { ValueLeft (value_on_time velocity track.old def) result value.new track.new }
 {
     let r = playing::calc_v_on_time(*track, def);
@@ -1070,8 +999,7 @@ pub extern "C" fn dollavir_calc_v_on_time(track: &mut Track, def: i32, value: &m
 }
 
 // The same of a note's timing. Leaves it in `value`, 0 where it refuses. Refuses 4.
-#[unsafe(no_mangle)]
-pub extern "C" fn dollavir_calc_t_on_time(track: &mut Track, def: i32, value: &mut i32) -> u32
+pub fn dollavir_calc_t_on_time(track: &mut Track, def: i32, value: &mut i32) -> u32
     ensures { ValueLeft (value_on_time timing track.old def) result value.new track.new }
 {
     let r = playing::calc_t_on_time(*track, def);
@@ -1081,8 +1009,7 @@ pub extern "C" fn dollavir_calc_t_on_time(track: &mut Track, def: i32, value: &m
 }
 
 // The same of a note's gate. Leaves it in `value`, 0 where it refuses. Refuses 4.
-#[unsafe(no_mangle)]
-pub extern "C" fn dollavir_calc_qlen_on_time(track: &mut Track, def: i32, value: &mut i32) -> u32
+pub fn dollavir_calc_qlen_on_time(track: &mut Track, def: i32, value: &mut i32) -> u32
     ensures { ValueLeft (value_on_time gate track.old def) result value.new track.new }
 {
     let r = playing::calc_qlen_on_time(*track, def);
@@ -1092,8 +1019,7 @@ pub extern "C" fn dollavir_calc_qlen_on_time(track: &mut Track, def: i32, value:
 }
 
 // The same of a note's octave. Leaves it in `value`, 0 where it refuses. Refuses 4.
-#[unsafe(no_mangle)]
-pub extern "C" fn dollavir_calc_o_on_time(track: &mut Track, def: i32, value: &mut i32) -> u32
+pub fn dollavir_calc_o_on_time(track: &mut Track, def: i32, value: &mut i32) -> u32
     ensures { ValueLeft (value_on_time octave track.old def) result value.new track.new }
 {
     let r = playing::calc_o_on_time(*track, def);
@@ -1103,8 +1029,7 @@ pub extern "C" fn dollavir_calc_o_on_time(track: &mut Track, def: i32, value: &m
 }
 
 // The same of a note's length. Leaves it in `value`, 0 where it refuses. Refuses 4.
-#[unsafe(no_mangle)]
-pub extern "C" fn dollavir_calc_l_on_time(track: &mut Track, def: i32, value: &mut i32) -> u32
+pub fn dollavir_calc_l_on_time(track: &mut Track, def: i32, value: &mut i32) -> u32
     ensures { ValueLeft (value_on_time span track.old def) result value.new track.new }
 {
     let r = playing::calc_l_on_time(*track, def);
@@ -1115,8 +1040,7 @@ pub extern "C" fn dollavir_calc_l_on_time(track: &mut Track, def: i32, value: &m
 
 // A note's velocity, the next of the list that is reserved, or the default; a list that is spent goes. While the list
 // is there, the value is the track's velocity too. Leaves it in `value`, 0 where it refuses. Refuses 4.
-#[unsafe(no_mangle)]
-pub extern "C" fn dollavir_calc_v_on_note(track: &mut Track, def: i32, value: &mut i32) -> u32
+pub fn dollavir_calc_v_on_note(track: &mut Track, def: i32, value: &mut i32) -> u32
     ensures { ValueLeft (value_on_note velocity track.old def) result value.new track.new }
 {
     let r = playing::calc_v_on_note(*track, def);
@@ -1126,8 +1050,7 @@ pub extern "C" fn dollavir_calc_v_on_note(track: &mut Track, def: i32, value: &m
 }
 
 // The same of a note's timing. Leaves it in `value`, 0 where it refuses. Refuses 4.
-#[unsafe(no_mangle)]
-pub extern "C" fn dollavir_calc_t_on_note(track: &mut Track, def: i32, value: &mut i32) -> u32
+pub fn dollavir_calc_t_on_note(track: &mut Track, def: i32, value: &mut i32) -> u32
     ensures { ValueLeft (value_on_note timing track.old def) result value.new track.new }
 {
     let r = playing::calc_t_on_note(*track, def);
@@ -1138,8 +1061,7 @@ pub extern "C" fn dollavir_calc_t_on_note(track: &mut Track, def: i32, value: &m
 
 // The same of a note's gate, which is no longer one in steps then. Leaves it in `value`, 0 where it refuses. Refuses
 // 4.
-#[unsafe(no_mangle)]
-pub extern "C" fn dollavir_calc_qlen_on_note(track: &mut Track, def: i32, value: &mut i32) -> u32
+pub fn dollavir_calc_qlen_on_note(track: &mut Track, def: i32, value: &mut i32) -> u32
     ensures { ValueLeft (value_on_note gate track.old def) result value.new track.new }
 {
     let r = playing::calc_qlen_on_note(*track, def);
@@ -1149,8 +1071,7 @@ pub extern "C" fn dollavir_calc_qlen_on_note(track: &mut Track, def: i32, value:
 }
 
 // The same of a note's octave. Leaves it in `value`, 0 where it refuses. Refuses 4.
-#[unsafe(no_mangle)]
-pub extern "C" fn dollavir_calc_o_on_note(track: &mut Track, def: i32, value: &mut i32) -> u32
+pub fn dollavir_calc_o_on_note(track: &mut Track, def: i32, value: &mut i32) -> u32
     ensures { ValueLeft (value_on_note octave track.old def) result value.new track.new }
 {
     let r = playing::calc_o_on_note(*track, def);
@@ -1160,8 +1081,7 @@ pub extern "C" fn dollavir_calc_o_on_note(track: &mut Track, def: i32, value: &m
 }
 
 // The same of a note's length, which the track does not keep. Leaves it in `value`, 0 where it refuses. Refuses 4.
-#[unsafe(no_mangle)]
-pub extern "C" fn dollavir_calc_l_on_note(track: &mut Track, def: i32, value: &mut i32) -> u32
+pub fn dollavir_calc_l_on_note(track: &mut Track, def: i32, value: &mut i32) -> u32
     ensures { ValueLeft (value_on_note span track.old def) result value.new track.new }
 {
     let r = playing::calc_l_on_note(*track, def);
@@ -1171,8 +1091,7 @@ pub extern "C" fn dollavir_calc_l_on_note(track: &mut Track, def: i32, value: &m
 }
 
 // A layer's value; nothing stays reserved for it. Refuses 4, 5.
-#[unsafe(no_mangle)]
-pub extern "C" fn dollavir_set_v_sub(track: &mut Track, index: usize, velocity: i32) -> u32
+pub fn dollavir_set_v_sub(track: &mut Track, index: usize, velocity: i32) -> u32
     ensures { TrackLeft (on_layers track.old (set_v_sub track.old.layers index velocity)) result track.new }
 {
     let r = playing::set_v_sub(*track, index, velocity);
@@ -1181,8 +1100,7 @@ pub extern "C" fn dollavir_set_v_sub(track: &mut Track, index: usize, velocity: 
 }
 
 // A layer's random width. Refuses 4, 5.
-#[unsafe(no_mangle)]
-pub extern "C" fn dollavir_set_v_sub_random(track: &mut Track, index: usize, random: i32) -> u32
+pub fn dollavir_set_v_sub_random(track: &mut Track, index: usize, random: i32) -> u32
     ensures { TrackLeft (on_layers track.old (set_v_sub_random track.old.layers index random)) result track.new }
 {
     let r = playing::set_v_sub_random(*track, index, random);
@@ -1191,8 +1109,7 @@ pub extern "C" fn dollavir_set_v_sub_random(track: &mut Track, index: usize, ran
 }
 
 // Reserves a curve for a layer, from the track's time and the velocity parameter's delay on. Refuses 3, 4, 5.
-#[unsafe(no_mangle)]
-pub extern "C" fn dollavir_set_v_sub_on_time(track: &mut Track, index: usize, values: &[i32]) -> u32
+pub fn dollavir_set_v_sub_on_time(track: &mut Track, index: usize, values: &[i32]) -> u32
     ensures { TrackLeft (on_layers track.old (set_v_sub_on_time track.old.layers index track.old.timepos track.old.v.delay values.now))
         result track.new }
 {
@@ -1202,8 +1119,7 @@ pub extern "C" fn dollavir_set_v_sub_on_time(track: &mut Track, index: usize, va
 }
 
 // Reserves a cycle for a layer, its length and then its values; nothing, where there is no value. Refuses 3, 4, 5.
-#[unsafe(no_mangle)]
-pub extern "C" fn dollavir_set_v_sub_on_cycle(track: &mut Track, index: usize, args: &[i32]) -> u32
+pub fn dollavir_set_v_sub_on_cycle(track: &mut Track, index: usize, args: &[i32]) -> u32
     ensures { TrackLeft (on_layers track.old (set_v_sub_on_cycle track.old.layers index track.old.timepos track.old.v.delay args.now))
         result track.new }
 {
@@ -1214,8 +1130,7 @@ pub extern "C" fn dollavir_set_v_sub_on_cycle(track: &mut Track, index: usize, a
 
 // Reserves a value of a layer for each of the next notes, round and round where the velocity parameter's repeat
 // stands. Refuses 3, 4, 5.
-#[unsafe(no_mangle)]
-pub extern "C" fn dollavir_set_v_sub_on_note(track: &mut Track, index: usize, values: &[i32]) -> u32
+pub fn dollavir_set_v_sub_on_note(track: &mut Track, index: usize, values: &[i32]) -> u32
     ensures { TrackLeft (on_layers track.old (set_v_sub_on_note track.old.layers index track.old.v.repeat values.now))
         result track.new }
 {
@@ -1226,8 +1141,7 @@ pub extern "C" fn dollavir_set_v_sub_on_note(track: &mut Track, index: usize, va
 
 // A note's velocity at the track's time: the given one and what every layer adds to it. The layers come back
 // advanced. Leaves it in `value`, 0 where it refuses. Refuses 4.
-#[unsafe(no_mangle)]
-pub extern "C" fn dollavir_apply_v_sub(track: &mut Track, velocity: i32, value: &mut i64) -> u32
+pub fn dollavir_apply_v_sub(track: &mut Track, velocity: i32, value: &mut i64) -> u32
     ensures { VelocityLeft (summed_up track.old (apply_v_sub track.old.layers track.old.timepos velocity))
         result value.new track.new }
 {
@@ -1239,8 +1153,7 @@ pub extern "C" fn dollavir_apply_v_sub(track: &mut Track, velocity: i32, value: 
 
 // The setters of a parameter, `which` by its number; any other number refuses 4. Reserves a curve, low, high and
 // length by threes, from the track's time and the parameter's delay on. Refuses 3, 4.
-#[unsafe(no_mangle)]
-pub extern "C" fn dollavir_set_param_on_time(track: &mut Track, which: u32, values: &[i32]) -> u32
+pub fn dollavir_set_param_on_time(track: &mut Track, which: u32, values: &[i32]) -> u32
     ensures { TrackLeft (on_param which track.old (set_on_time (param_of which track.old) track.old.timepos values.now))
         result track.new }
 {
@@ -1250,8 +1163,7 @@ pub extern "C" fn dollavir_set_param_on_time(track: &mut Track, which: u32, valu
 }
 
 // Reserves a cycle, its length and then its values, from there on; nothing, where there is no value. Refuses 3, 4.
-#[unsafe(no_mangle)]
-pub extern "C" fn dollavir_set_param_on_cycle(track: &mut Track, which: u32, args: &[i32]) -> u32
+pub fn dollavir_set_param_on_cycle(track: &mut Track, which: u32, args: &[i32]) -> u32
     ensures { TrackLeft (on_param which track.old (params_set_on_cycle (param_of which track.old) track.old.timepos args.now))
         result track.new }
 {
@@ -1261,8 +1173,7 @@ pub extern "C" fn dollavir_set_param_on_cycle(track: &mut Track, which: u32, arg
 }
 
 // Reserves a value for each of the next notes, round and round where repeat stands. Refuses 3, 4.
-#[unsafe(no_mangle)]
-pub extern "C" fn dollavir_set_param_on_note(track: &mut Track, which: u32, values: &[i32]) -> u32
+pub fn dollavir_set_param_on_note(track: &mut Track, which: u32, values: &[i32]) -> u32
     ensures { TrackLeft (on_param which track.old (params_set_on_note (param_of which track.old) values.now)) result track.new }
 {
     let r = playing::set_param_on_note(*track, which, values);
@@ -1271,8 +1182,7 @@ pub extern "C" fn dollavir_set_param_on_note(track: &mut Track, which: u32, valu
 }
 
 // Nothing stays reserved. Refuses 4.
-#[unsafe(no_mangle)]
-pub extern "C" fn dollavir_clear_param_reserve(track: &mut Track, which: u32) -> u32
+pub fn dollavir_clear_param_reserve(track: &mut Track, which: u32) -> u32
     ensures { TrackLeft (on_param which track.old (clear_reserve (param_of which track.old))) result track.new }
 {
     let r = playing::clear_param_reserve(*track, which);
@@ -1281,8 +1191,7 @@ pub extern "C" fn dollavir_clear_param_reserve(track: &mut Track, which: u32) ->
 }
 
 // The random width of a value. Refuses 4.
-#[unsafe(no_mangle)]
-pub extern "C" fn dollavir_set_param_random(track: &mut Track, which: u32, random: i32) -> u32
+pub fn dollavir_set_param_random(track: &mut Track, which: u32, random: i32) -> u32
     ensures { TrackLeft (on_param which track.old (params_set_random (param_of which track.old) random)) result track.new }
 {
     let r = playing::set_param_random(*track, which, random);
@@ -1291,13 +1200,7 @@ pub extern "C" fn dollavir_set_param_random(track: &mut Track, which: u32, rando
 }
 
 // The range of a value. Refuses 4.
-#[unsafe(no_mangle)]
-pub extern "C" fn dollavir_set_param_range(
-    track: &mut Track,
-    which: u32,
-    low: i32,
-    high: i32,
-) -> u32
+pub fn dollavir_set_param_range(track: &mut Track, which: u32, low: i32, high: i32) -> u32
     ensures { TrackLeft (on_param which track.old (params_set_range (param_of which track.old) low high)) result track.new }
 {
     let r = playing::set_param_range(*track, which, low, high);
@@ -1306,8 +1209,7 @@ pub extern "C" fn dollavir_set_param_range(
 }
 
 // No range. Refuses 4.
-#[unsafe(no_mangle)]
-pub extern "C" fn dollavir_clear_param_range(track: &mut Track, which: u32) -> u32
+pub fn dollavir_clear_param_range(track: &mut Track, which: u32) -> u32
     ensures { TrackLeft (on_param which track.old (params_clear_range (param_of which track.old))) result track.new }
 {
     let r = playing::clear_param_range(*track, which);
@@ -1316,8 +1218,7 @@ pub extern "C" fn dollavir_clear_param_range(track: &mut Track, which: u32) -> u
 }
 
 // The delay of what is reserved from now on. Refuses 4.
-#[unsafe(no_mangle)]
-pub extern "C" fn dollavir_set_param_delay(track: &mut Track, which: u32, delay: i32) -> u32
+pub fn dollavir_set_param_delay(track: &mut Track, which: u32, delay: i32) -> u32
     ensures { TrackLeft (on_param which track.old (params_set_delay (param_of which track.old) delay)) result track.new }
 {
     let r = playing::set_param_delay(*track, which, delay);
@@ -1326,8 +1227,7 @@ pub extern "C" fn dollavir_set_param_delay(track: &mut Track, which: u32, delay:
 }
 
 // The maximum of a value. Refuses 4.
-#[unsafe(no_mangle)]
-pub extern "C" fn dollavir_set_param_max(track: &mut Track, which: u32, max: i32) -> u32
+pub fn dollavir_set_param_max(track: &mut Track, which: u32, max: i32) -> u32
     ensures { TrackLeft (on_param which track.old (set_max (param_of which track.old) max)) result track.new }
 {
     let r = playing::set_param_max(*track, which, max);
@@ -1336,8 +1236,7 @@ pub extern "C" fn dollavir_set_param_max(track: &mut Track, which: u32, max: i32
 }
 
 // No maximum. Refuses 4.
-#[unsafe(no_mangle)]
-pub extern "C" fn dollavir_clear_param_max(track: &mut Track, which: u32) -> u32
+pub fn dollavir_clear_param_max(track: &mut Track, which: u32) -> u32
     ensures { TrackLeft (on_param which track.old (clear_max (param_of which track.old))) result track.new }
 {
     let r = playing::clear_param_max(*track, which);
@@ -1346,8 +1245,7 @@ pub extern "C" fn dollavir_clear_param_max(track: &mut Track, which: u32) -> u32
 }
 
 // Whether a list that is reserved from now on goes round: 0 or 1. Refuses 4.
-#[unsafe(no_mangle)]
-pub extern "C" fn dollavir_set_param_repeat(track: &mut Track, which: u32, repeat: u32) -> u32
+pub fn dollavir_set_param_repeat(track: &mut Track, which: u32, repeat: u32) -> u32
     ensures { TrackLeft (on_param which track.old (params_set_repeat (param_of which track.old) repeat)) result track.new }
 {
     let r = playing::set_param_repeat(*track, which, repeat);
@@ -1357,54 +1255,42 @@ pub extern "C" fn dollavir_set_param_repeat(track: &mut Track, which: u32, repea
 
 // ---- events
 // A note of a length and a velocity. Refuses 4.
-#[unsafe(no_mangle)]
-pub extern "C" fn dollavir_event_note(
-    time: i64,
-    channel: i64,
-    number: i64,
-    len: i64,
-    vel: i64,
-) -> Made
+pub fn dollavir_event_note(time: i64, channel: i64, number: i64, len: i64, vel: i64) -> Made
     ensures { result ≡ made 0 (note_event time channel number len vel) }
 {
     Event::note(time, channel, number, len, vel)
 }
 
 // A program. Refuses 4.
-#[unsafe(no_mangle)]
-pub extern "C" fn dollavir_event_voice(time: i64, channel: i64, value: i64) -> Made
+pub fn dollavir_event_voice(time: i64, channel: i64, value: i64) -> Made
     ensures { result ≡ made 0 (voice_event time channel value) }
 {
     Event::voice(time, channel, value)
 }
 
 // A controller's value. Refuses 2 a number that is no controller's, then 4.
-#[unsafe(no_mangle)]
-pub extern "C" fn dollavir_event_cc(time: i64, channel: i64, number: i64, value: i64) -> Made
+pub fn dollavir_event_cc(time: i64, channel: i64, number: i64, value: i64) -> Made
     ensures { result ≡ made_cc time channel number value }
 {
     Event::cc(time, channel, number, value)
 }
 
 // A bend. Refuses 4.
-#[unsafe(no_mangle)]
-pub extern "C" fn dollavir_event_pitch_bend(time: i64, channel: i64, value: i64) -> Made
+pub fn dollavir_event_pitch_bend(time: i64, channel: i64, value: i64) -> Made
     ensures { result ≡ made 0 (pitch_bend_event time channel value) }
 {
     Event::pitch_bend(time, channel, value)
 }
 
 // A bend's range. Refuses 4.
-#[unsafe(no_mangle)]
-pub extern "C" fn dollavir_event_pitch_bend_range(time: i64, channel: i64, value: i64) -> Made
+pub fn dollavir_event_pitch_bend_range(time: i64, channel: i64, value: i64) -> Made
     ensures { result ≡ made 0 (pitch_bend_range_event time channel value) }
 {
     Event::pitch_bend_range(time, channel, value)
 }
 
 // A meta event, its data the `len` bytes of `store` from `offset` on. Refuses 4.
-#[unsafe(no_mangle)]
-pub extern "C" fn dollavir_event_meta(
+pub fn dollavir_event_meta(
     time: i64,
     v1: i64,
     v2: i64,
@@ -1419,24 +1305,21 @@ pub extern "C" fn dollavir_event_meta(
 }
 
 // Bytes of `store` that are written as they stand. Refuses 4.
-#[unsafe(no_mangle)]
-pub extern "C" fn dollavir_event_direct_smf(time: i64, offset: i64, len: i64, store: &[u8]) -> Made
+pub fn dollavir_event_direct_smf(time: i64, offset: i64, len: i64, store: &[u8]) -> Made
     ensures { result ≡ made (length store.now) (direct_smf_event time offset len) }
 {
     Event::direct_smf(time, offset, len, store)
 }
 
 // A system exclusive message of bytes of `store`. Refuses 4.
-#[unsafe(no_mangle)]
-pub extern "C" fn dollavir_event_sysex_raw(time: i64, offset: i64, len: i64, store: &[u8]) -> Made
+pub fn dollavir_event_sysex_raw(time: i64, offset: i64, len: i64, store: &[u8]) -> Made
     ensures { result ≡ made (length store.now) (sysex_event time offset len) }
 {
     Event::sysex_raw(time, offset, len, store)
 }
 
 // The bytes that an event counts in the budget. Refuses 4 an event that may not be stored beside `store`.
-#[unsafe(no_mangle)]
-pub extern "C" fn dollavir_event_bytes(event: &Event, store: &[u8], bytes: &mut usize) -> u32
+pub fn dollavir_event_bytes(event: &Event, store: &[u8], bytes: &mut usize) -> u32
     ensures { SizeTold (size_of (length store.now) event.now) result bytes.new }
 {
     let r = Event::estimated_midi_bytes(*event, store);
@@ -1446,16 +1329,14 @@ pub extern "C" fn dollavir_event_bytes(event: &Event, store: &[u8], bytes: &mut 
 
 // ---- a note parameter of its own
 // Nothing reserved, no option set.
-#[unsafe(no_mangle)]
-pub extern "C" fn dollavir_param_new() -> NoteParam
+pub fn dollavir_param_new() -> NoteParam
     ensures { result ≡ fresh }
 {
     NoteParam::new()
 }
 
 // Nothing stays reserved. Refuses 4.
-#[unsafe(no_mangle)]
-pub extern "C" fn dollavir_param_clear_reserve(param: &mut NoteParam) -> u32
+pub fn dollavir_param_clear_reserve(param: &mut NoteParam) -> u32
     ensures { ParamLeft (clear_reserve param.old) result param.new }
 {
     let r = NoteParam::clear_reserve(*param);
@@ -1464,8 +1345,7 @@ pub extern "C" fn dollavir_param_clear_reserve(param: &mut NoteParam) -> u32
 }
 
 // 1 where something is reserved, else 0. Leaves it in `value`, 0 where it refuses. Refuses 4.
-#[unsafe(no_mangle)]
-pub extern "C" fn dollavir_param_has_reserve(param: &NoteParam, value: &mut i32) -> u32
+pub fn dollavir_param_has_reserve(param: &NoteParam, value: &mut i32) -> u32
     ensures { ParamTold (has_reserve param.now) result value.new }
 {
     let r = NoteParam::has_reserve(*param);
@@ -1474,12 +1354,7 @@ pub extern "C" fn dollavir_param_has_reserve(param: &NoteParam, value: &mut i32)
 }
 
 // Reserves a curve, low, high and length by threes, from `timepos` and the delay on. Refuses 3, 4.
-#[unsafe(no_mangle)]
-pub extern "C" fn dollavir_param_set_on_time(
-    param: &mut NoteParam,
-    timepos: i64,
-    values: &[i32],
-) -> u32
+pub fn dollavir_param_set_on_time(param: &mut NoteParam, timepos: i64, values: &[i32]) -> u32
     ensures { ParamLeft (set_on_time param.old timepos values.now) result param.new }
 {
     let r = NoteParam::set_on_time(*param, timepos, values);
@@ -1489,12 +1364,7 @@ pub extern "C" fn dollavir_param_set_on_time(
 
 // Reserves a cycle, its length and then its values, from `timepos` and the delay on; nothing, where there is no
 // value. Refuses 3, 4.
-#[unsafe(no_mangle)]
-pub extern "C" fn dollavir_param_set_on_cycle(
-    param: &mut NoteParam,
-    timepos: i64,
-    args: &[i32],
-) -> u32
+pub fn dollavir_param_set_on_cycle(param: &mut NoteParam, timepos: i64, args: &[i32]) -> u32
     ensures { ParamLeft (params_set_on_cycle param.old timepos args.now) result param.new }
 {
     let r = NoteParam::set_on_cycle(*param, timepos, args);
@@ -1503,8 +1373,7 @@ pub extern "C" fn dollavir_param_set_on_cycle(
 }
 
 // Reserves a value for each of the next notes, round and round where repeat stands. Refuses 3, 4.
-#[unsafe(no_mangle)]
-pub extern "C" fn dollavir_param_set_on_note(param: &mut NoteParam, values: &[i32]) -> u32
+pub fn dollavir_param_set_on_note(param: &mut NoteParam, values: &[i32]) -> u32
     ensures { ParamLeft (params_set_on_note param.old values.now) result param.new }
 {
     let r = NoteParam::set_on_note(*param, values);
@@ -1514,8 +1383,7 @@ pub extern "C" fn dollavir_param_set_on_note(param: &mut NoteParam, values: &[i3
 
 // The value of the reserved curve or cycle at `timepos`, or the default; a curve that is over goes. Leaves it in
 // `value`, 0 where it refuses. Refuses 4.
-#[unsafe(no_mangle)]
-pub extern "C" fn dollavir_param_calc_on_time(
+pub fn dollavir_param_calc_on_time(
     param: &mut NoteParam,
     timepos: i64,
     def: i32,
@@ -1531,12 +1399,7 @@ pub extern "C" fn dollavir_param_calc_on_time(
 
 // The next value of the reserved list, or the default; a list that is spent goes. Leaves it in `value`, 0 where it
 // refuses. Refuses 4.
-#[unsafe(no_mangle)]
-pub extern "C" fn dollavir_param_calc_on_note(
-    param: &mut NoteParam,
-    def: i32,
-    value: &mut i32,
-) -> u32
+pub fn dollavir_param_calc_on_note(param: &mut NoteParam, def: i32, value: &mut i32) -> u32
     ensures { ParamTaken (calc_on_note param.old def) result value.new param.new }
 {
     let r = NoteParam::calc_on_note(*param, def);
@@ -1547,12 +1410,7 @@ pub extern "C" fn dollavir_param_calc_on_note(
 
 // A value limited by the range and then by the maximum, where there is one. Leaves it in `limited`, 0 where it
 // refuses. Refuses 4.
-#[unsafe(no_mangle)]
-pub extern "C" fn dollavir_param_apply_limit(
-    param: &NoteParam,
-    value: i32,
-    limited: &mut i32,
-) -> u32
+pub fn dollavir_param_apply_limit(param: &NoteParam, value: i32, limited: &mut i32) -> u32
     ensures { ParamTold (apply_limit param.now value) result limited.new }
 {
     let r = NoteParam::apply_limit(*param, value);
@@ -1561,8 +1419,7 @@ pub extern "C" fn dollavir_param_apply_limit(
 }
 
 // The maximum, or the default where there is none. Leaves it in `value`, 0 where it refuses. Refuses 4.
-#[unsafe(no_mangle)]
-pub extern "C" fn dollavir_param_max_or(param: &NoteParam, def: i32, value: &mut i32) -> u32
+pub fn dollavir_param_max_or(param: &NoteParam, def: i32, value: &mut i32) -> u32
     ensures { ParamTold (maximum_or param.now def) result value.new }
 {
     let r = NoteParam::max_or(*param, def);
@@ -1571,8 +1428,7 @@ pub extern "C" fn dollavir_param_max_or(param: &NoteParam, def: i32, value: &mut
 }
 
 // The random width of a value. Refuses 4.
-#[unsafe(no_mangle)]
-pub extern "C" fn dollavir_param_set_random(param: &mut NoteParam, random: i32) -> u32
+pub fn dollavir_param_set_random(param: &mut NoteParam, random: i32) -> u32
     ensures { ParamLeft (params_set_random param.old random) result param.new }
 {
     let r = NoteParam::set_random(*param, random);
@@ -1581,8 +1437,7 @@ pub extern "C" fn dollavir_param_set_random(param: &mut NoteParam, random: i32) 
 }
 
 // The range of a value. Refuses 4.
-#[unsafe(no_mangle)]
-pub extern "C" fn dollavir_param_set_range(param: &mut NoteParam, low: i32, high: i32) -> u32
+pub fn dollavir_param_set_range(param: &mut NoteParam, low: i32, high: i32) -> u32
     ensures { ParamLeft (params_set_range param.old low high) result param.new }
 {
     let r = NoteParam::set_range(*param, low, high);
@@ -1591,8 +1446,7 @@ pub extern "C" fn dollavir_param_set_range(param: &mut NoteParam, low: i32, high
 }
 
 // No range. Refuses 4.
-#[unsafe(no_mangle)]
-pub extern "C" fn dollavir_param_clear_range(param: &mut NoteParam) -> u32
+pub fn dollavir_param_clear_range(param: &mut NoteParam) -> u32
     ensures { ParamLeft (params_clear_range param.old) result param.new }
 {
     let r = NoteParam::clear_range(*param);
@@ -1601,8 +1455,7 @@ pub extern "C" fn dollavir_param_clear_range(param: &mut NoteParam) -> u32
 }
 
 // The delay of what is reserved from now on. Refuses 4.
-#[unsafe(no_mangle)]
-pub extern "C" fn dollavir_param_set_delay(param: &mut NoteParam, delay: i32) -> u32
+pub fn dollavir_param_set_delay(param: &mut NoteParam, delay: i32) -> u32
     ensures { ParamLeft (params_set_delay param.old delay) result param.new }
 {
     let r = NoteParam::set_delay(*param, delay);
@@ -1611,8 +1464,7 @@ pub extern "C" fn dollavir_param_set_delay(param: &mut NoteParam, delay: i32) ->
 }
 
 // The maximum of a value. Refuses 4.
-#[unsafe(no_mangle)]
-pub extern "C" fn dollavir_param_set_max(param: &mut NoteParam, max: i32) -> u32
+pub fn dollavir_param_set_max(param: &mut NoteParam, max: i32) -> u32
     ensures { ParamLeft (set_max param.old max) result param.new }
 {
     let r = NoteParam::set_max(*param, max);
@@ -1621,8 +1473,7 @@ pub extern "C" fn dollavir_param_set_max(param: &mut NoteParam, max: i32) -> u32
 }
 
 // No maximum. Refuses 4.
-#[unsafe(no_mangle)]
-pub extern "C" fn dollavir_param_clear_max(param: &mut NoteParam) -> u32
+pub fn dollavir_param_clear_max(param: &mut NoteParam) -> u32
     ensures { ParamLeft (clear_max param.old) result param.new }
 {
     let r = NoteParam::clear_max(*param);
@@ -1631,8 +1482,7 @@ pub extern "C" fn dollavir_param_clear_max(param: &mut NoteParam) -> u32
 }
 
 // Whether a list that is reserved from now on goes round: 0 or 1. Refuses 4.
-#[unsafe(no_mangle)]
-pub extern "C" fn dollavir_param_set_repeat(param: &mut NoteParam, repeat: u32) -> u32
+pub fn dollavir_param_set_repeat(param: &mut NoteParam, repeat: u32) -> u32
     ensures { ParamLeft (params_set_repeat param.old repeat) result param.new }
 {
     let r = NoteParam::set_repeat(*param, repeat);
@@ -1642,16 +1492,14 @@ pub extern "C" fn dollavir_param_set_repeat(param: &mut NoteParam, repeat: u32) 
 
 // ---- velocity layers of their own
 // One layer, with nothing set.
-#[unsafe(no_mangle)]
-pub extern "C" fn dollavir_layers_new() -> Layers
+pub fn dollavir_layers_new() -> Layers
     ensures { result ≡ one_layer }
 {
     Layers::new()
 }
 
 // A layer's value; nothing stays reserved for it. Refuses 4, 5.
-#[unsafe(no_mangle)]
-pub extern "C" fn dollavir_layers_set_v_sub(layers: &mut Layers, index: usize, velocity: i32) -> u32
+pub fn dollavir_layers_set_v_sub(layers: &mut Layers, index: usize, velocity: i32) -> u32
     ensures { LayersLeft (set_v_sub layers.old index velocity) result layers.new }
 {
     let r = Layers::set_v_sub(*layers, index, velocity);
@@ -1660,12 +1508,7 @@ pub extern "C" fn dollavir_layers_set_v_sub(layers: &mut Layers, index: usize, v
 }
 
 // A layer's random width. Refuses 4, 5.
-#[unsafe(no_mangle)]
-pub extern "C" fn dollavir_layers_set_v_sub_random(
-    layers: &mut Layers,
-    index: usize,
-    random: i32,
-) -> u32
+pub fn dollavir_layers_set_v_sub_random(layers: &mut Layers, index: usize, random: i32) -> u32
     ensures { LayersLeft (set_v_sub_random layers.old index random) result layers.new }
 {
     let r = Layers::set_v_sub_random(*layers, index, random);
@@ -1674,8 +1517,7 @@ pub extern "C" fn dollavir_layers_set_v_sub_random(
 }
 
 // Reserves a curve for a layer, from `timepos` and the velocity parameter's delay on. Refuses 3, 4, 5.
-#[unsafe(no_mangle)]
-pub extern "C" fn dollavir_layers_set_v_sub_on_time(
+pub fn dollavir_layers_set_v_sub_on_time(
     layers: &mut Layers,
     index: usize,
     timepos: i64,
@@ -1691,8 +1533,7 @@ pub extern "C" fn dollavir_layers_set_v_sub_on_time(
 
 // Reserves a cycle for a layer, its length and then its values, from `timepos` and the velocity parameter's delay on;
 // nothing, where there is no value. Refuses 3, 4, 5.
-#[unsafe(no_mangle)]
-pub extern "C" fn dollavir_layers_set_v_sub_on_cycle(
+pub fn dollavir_layers_set_v_sub_on_cycle(
     layers: &mut Layers,
     index: usize,
     timepos: i64,
@@ -1708,8 +1549,7 @@ pub extern "C" fn dollavir_layers_set_v_sub_on_cycle(
 
 // Reserves a value of a layer for each of the next notes, round and round where the velocity parameter's repeat
 // stands. Refuses 3, 4, 5.
-#[unsafe(no_mangle)]
-pub extern "C" fn dollavir_layers_set_v_sub_on_note(
+pub fn dollavir_layers_set_v_sub_on_note(
     layers: &mut Layers,
     index: usize,
     repeat: u32,
@@ -1724,8 +1564,7 @@ pub extern "C" fn dollavir_layers_set_v_sub_on_note(
 
 // A note's velocity at `timepos`: the given one and what every layer adds to it. The layers come back advanced.
 // Leaves it in `value`, 0 where it refuses. Refuses 4.
-#[unsafe(no_mangle)]
-pub extern "C" fn dollavir_layers_apply_v_sub(
+pub fn dollavir_layers_apply_v_sub(
     layers: &mut Layers,
     timepos: i64,
     velocity: i32,
@@ -1742,8 +1581,7 @@ pub extern "C" fn dollavir_layers_apply_v_sub(
 // ---- a cycle over time of its own
 // The value of a cycle at `timepos`, and in `found` whether it has one: none before the start, and none of a cycle
 // without values or with a length of 0 or less. Leaves it in `value`, 0 where it refuses. Refuses 4.
-#[unsafe(no_mangle)]
-pub extern "C" fn dollavir_cycle_time_calc(
+pub fn dollavir_cycle_time_calc(
     cycle: &OnCycleTime,
     timepos: i64,
     found: &mut u32,
@@ -1760,8 +1598,7 @@ pub extern "C" fn dollavir_cycle_time_calc(
 // ---- the kind of a sine
 // The kind of a sine that a number names, as `write_sine` takes it: 1 and 2 the quarters up and down, any other number the full
 // turn, which is 0. Refuses nothing.
-#[unsafe(no_mangle)]
-pub extern "C" fn dollavir_sine_type(v: i32) -> u32
+pub fn dollavir_sine_type(v: i32) -> u32
     ensures { result ≡ number_of (sine_type v) }
 {
     let wide = widened(v);
