@@ -25,8 +25,16 @@ def constant(name, crate):
     return re.search(r'const %s: usize = (\d+);' % name, source(crate))[1]
 
 
+def homes_of(text):
+    """The crate of each name that a file imports."""
+    found = {}
+    for crate, names in re.findall(r'^(?:pub )?use (\w+)::(\{[^}]*\}|\w+);', text, re.M):
+        found.update({n.strip(): crate for n in names.strip('{}').split(',') if n.strip()})
+    return found
+
+
 def crates():
-    return [l.split(':')[0] for l in open('crates.txt') if ':' in l and not l.startswith('#')]
+    return [l.split(':')[0].split()[0] for l in open('crates.txt') if ':' in l and not l.startswith('#')]
 
 
 class Library:
@@ -34,14 +42,14 @@ class Library:
     types reach, inner ones first."""
     def __init__(self):
         text = source(CRATE)
-        shape = r'((?:^//[^\n]*\n)+)#\[no_mangle\]\npub extern "C" fn (\w+)\((.*?)\)(?: -> (\w+))?\s*\n'
+        shape = r'((?:^//[^\n]*\n)+)pub fn (dollavir_\w+)\((.*?)\)(?: -> (\w+))?\s*\n'
         self.functions, self.titles = [], {}
         for comment, name, params, result in re.findall(shape, text, re.S | re.M):
             lines = [l.removeprefix('//').strip() for l in comment.strip().split('\n') if not l.startswith('// ----')]
             self.titles[name] = [l.removeprefix('// ---- ') for l in comment.split('\n') if l.startswith('// ----')]
             ps = [tuple(x.strip() for x in p.split(':')) for p in re.split(r',(?![^\[]*\])', params) if p.strip()]
             self.functions.append((name, ' '.join(lines), ps, result))
-        self.homes = {s: c for c, s in re.findall(r'^use (\w+)::([A-Z][a-z]\w*);', text, re.M)}
+        self.homes = homes_of(text)
         self.structs, self.limit = {}, int(constant(LIMIT, 'counted'))
         for _, _, ps, result in self.functions:
             for t in [t for _, t in ps] + [result]:
@@ -52,10 +60,10 @@ class Library:
         if name in self.structs:
             return
         text = source(crate)
-        m = re.search(r'#\[repr\(C\)\]\npub struct %s \{\n(.*?)\n\}' % name, text, re.S)
+        m = re.search(r'#\[repr\(C\)\]\n(?:#\[derive\([^)]*\)\]\n)?pub struct %s \{\n(.*?)\n\}' % name, text, re.S)
         if not m:
             sys.exit(f'{crate}: no #[repr(C)] struct {name}')
-        homes = {s: c for c, s in re.findall(r'^(?:pub )?use (\w+)::(\w+);', text, re.M)}
+        homes = homes_of(text)
         fields = []
         for f, t in re.findall(r'pub (\w+): ([^,]+),', m[1]):
             a = re.fullmatch(r'\[(\w+); (\w+)\]', t)
@@ -65,7 +73,7 @@ class Library:
             if of[0].isupper():
                 self.reach(of, homes.get(of, crate))
             fields.append((f, of, n))
-        about = re.search(r'((?:^//[^\n]*\n)*)#\[repr\(C\)\]\npub struct %s ' % name, text, re.M)[1]
+        about = re.search(r'((?:^//[^\n]*\n)*)#\[repr\(C\)\]\n(?:#\[derive\([^)]*\)\]\n)?pub struct %s ' % name, text, re.M)[1]
         self.structs[name] = (crate, fields, ' '.join(l.removeprefix('//').strip() for l in about.strip().split('\n')))
 
     def bytes_of(self, t):
@@ -183,24 +191,24 @@ def rust(lib):
     return '\n'.join(out[:-1] + ['}', ''])
 
 
-TYPES = ['(tyInt w)', 'tyBool', '(tyFloat f)', 'tyPtr', '(tyRef κ μ τ)', '(tyArray τ n)', 'tyUnit', '(tyEnum ν τss)', '(tyNamed ν)']
+TYPES = ['(ty_int w)', 'ty_bool', '(ty_float f)', 'ty_ptr', '(ty_ref κ μ τ)', '(ty_array τ n)', 'ty_unit', '(ty_enum ν τss)', '(ty_named ν τs)', '(ty_param k)', '(ty_const k)', '(ty_array_p τ k)']
 
 
 def theorems(lib):
     out = ['-- Where the fields of each record lie that the library is handed or hands out, as the machine has them: its size, its alignment, and the place',
            '-- of each field. include/dollavir.h asserts the same numbers of the same records. Made by tools/header.py.',
-           'use mathlib.Core.Path.{_≡_, refl}', 'use mathlib.Core.List.{List, [], _∷_}', 'use Prim.Native.Nat.{ℕ, zero, _+_}',
-           'use mir.Syntax.{Ty, Tys, tnil, tcons, tyInt, tyBool, tyFloat, tyPtr, tyRef, tyArray, tyUnit, tyStruct, tyEnum, tyNamed}', 'use prog.Memory.{size, align, up}']
+           'use mathlib.Core.Path.{◌≡◌, refl}', 'use mathlib.Core.List.{List, [], ◌∷◌}', 'use Prim.Native.Nat.{ℕ, zero, ◌+◌}',
+           'use mir.Syntax.{Ty, Tys, tnil, tcons, ty_int, ty_bool, ty_float, ty_ptr, ty_ref, ty_array, ty_unit, ty_struct, ty_enum, ty_named, ty_param, ty_const, ty_array_p}', 'use prog.Memory.{size, align, up}']
     for name, (crate, _, _) in lib.structs.items():
-        out.append(f'use Rattle·{crate}{"·proofs" if crate == CRATE else ""}.proofs.{name}.Laws as {name}′')
+        out.append(f"use Rattle.{crate}.proofs.{name}.TheLaws as {name}'")
     out += ['', '-- the place of each field, where the first may stand at k', 'abbrev pub places : ℕ → Tys → List ℕ', 'places k tnil = []',
             'places k (tcons τ τs) = up (align τ) k ∷ places (up (align τ) k + size τ) τs', '',
-            '-- a struct\'s size, alignment and places', 'abbrev pub lies : Ty → List ℕ', 'lies (tyStruct ν τs) = size (tyStruct ν τs) ∷ align (tyStruct ν τs) ∷ places zero τs']
+            '-- a struct\'s size, alignment and places', 'abbrev pub lies : Ty → List ℕ', 'lies (ty_struct ν τs) = size (ty_struct ν τs) ∷ align (ty_struct ν τs) ∷ places zero τs']
     out += [f'lies {t} = []' for t in TYPES]
     for name in lib.structs:
         size, align, places = lib.layout(name)
         low = snake(name).removeprefix('dollavir_').replace('_', '-')
-        out += ['', f'pub {low}-lies : lies {name}′.mir ≡ ' + ' ∷ '.join(map(str, [size, align] + places)) + ' ∷ []', f'{low}-lies = refl']
+        out += ['', f'pub {low}-lies : lies {name}\'.mir ≡ ' + ' ∷ '.join(map(str, [size, align] + places)) + ' ∷ []', f'{low}-lies = refl']
     return '\n'.join(out) + '\n'
 
 

@@ -17,7 +17,7 @@ COLOURS = [
     ('#e9f5ea', 'what is done to the list', {'sorting', 'notes', 'cutting', 'chunks', 'passage'}),
     ('#fdf3df', 'parameters, reservations, curves', {'reserved', 'params', 'layers', 'offers', 'writing', 'cycles', 'tables'}),
     ('#f9e4e4', "the track and a product's calls",
-     {'state', 'playing', 'drawing', 'noting', 'waving', 'reserving', 'cycling', 'lending', 'loans', 'track', 'ctrack', 'marked', 'series'}),
+     {'state', 'playing', 'drawing', 'noting', 'waving', 'reserving', 'cycling', 'lending', 'loans', 'track', 'ctrack', 'ctrack_c', 'marked', 'series'}),
     ('#eeeeee', 'programs: tape, comparison, benchmark', set()),
 ]
 # crate, function, what it does for `write_cc_on_time`
@@ -45,7 +45,7 @@ def crates():
     for line in open(os.path.join(TOP, 'crates.txt')):
         if line.strip() and not line.startswith('#'):
             name, rest = line.split(':')
-            named[name] = [d for d in rest.split() if d not in KIT]
+            named[name.split()[0]] = [d for d in rest.split() if d not in KIT]
     below = {}
     for name, direct in named.items():  # the lowest stand first
         below[name] = set(direct).union(*(below[d] for d in direct))
