@@ -81,7 +81,8 @@ def logic(text):
 
 def source(text):
     """The functions of a file of code: name, what is promised, body; and the types and constants: name, text."""
-    text = '\n'.join(line for line in re.sub(r'(?m)(^|(?<=\s))//.*$', '', text).split('\n') if line.strip() and not re.match(r'(ghost |pub )?use ', line))
+    text = re.sub(r'(?m)^(ghost |pub )?use [^;]*;', '', re.sub(r'(?m)(^|(?<=\s))//.*$', '', text))
+    text = '\n'.join(line for line in text.split('\n') if line.strip())
     functions, types, of = [], [], ''
     for m in re.finditer(r'^impl (\w+) \{|^( *)(?:pub )?(?:extern "C" )?fn (\w+)(.*?)(?: |^\2)\{\n(.*?)^\2\}|^(?:pub )?(struct|enum|const) (\w+)(.*?)(?:^\}|;$)', text, re.S | re.M):
         if m[1]:
@@ -104,7 +105,7 @@ def told(commit):
                 all['definitions'][place + (name,)] = statement + ' = ' + clauses
         elif part == 'proofs':
             all['proofs'][place + ('',)] = text
-            if not rest.endswith('/Proof.antt'):
+            if not re.search(r'/(Proof|Invariants|Answers)\.antt$', rest):  # of one function
                 for name, public, word, statement, clauses in logic(text):
                     if public:
                         all['theorems'][place + (name,)] = statement + (' = ' + clauses if word else '')

@@ -1,17 +1,13 @@
 #!/usr/bin/env python3
 """Writes the crate ctrack from the table below: its functions and their contracts, from those of the calls by value that they
-export; what the contracts say; and the functions' proofs (tools/thin.py has those of a function that is lent a record).
+export, and what the contracts say.
 
-    python3 tools/ctrack.py source     crates/ctrack/src/lib.rt and specs/Lent.antt
-    python3 tools/ctrack.py F..        the proofs of F..; with no F, of all. `rt mir` must take the crate
+    python3 tools/ctrack.py            in the repository's folder: writes crates/ctrack/src/lib.rt and specs/Lent.antt
+    python3 tools/ctrack.py --check    writes nothing, and fails where one of the two is not what it would write
 
-`rt fmt` then lays all of it out, and tools/header.py makes the header.
+A function stands as `dollavir_track_new` stands there, `pub fn` or `pub extern "C" fn`, exported or not. tools/header.py makes the header of them.
 """
 import os, re, sys
-
-sys.path.insert(0, os.path.dirname(os.path.abspath(__file__)))
-import thin, walk
-from thin import Call
 
 # The calls that are exported: `crate::function` by its own name, or `crate::function=NAME`.
 TABLE = """
@@ -67,13 +63,12 @@ A cycle over time of its own
 """
 # The setters of a controller or a bend: what is called of a target, what stands before the call, and what is handed to it.
 BY_TARGET = {
-    'remove_cc_on': ('remove_reserve', ['let target = drawing::cc_target(number);'], ['target'], '(ccTarget number)'),
-    'set_cc_on_note': ('set_on_note', ['let target = drawing::cc_target(number);'], ['target', 'list'], '(ccTarget number)'),
-    'set_cc_on_note_wave': ('set_on_note_wave', ['let target = drawing::cc_target(number);', 'let mode = as_it_is();'], ['target', 'mode', 'list'], '(ccTarget number)'),
-    'set_pb_on_note_wave': ('set_on_note_wave', ['let target = drawing::pb_target(big);', 'let mode = as_it_is();'], ['target', 'mode', 'list'], '(pbTarget big)'),
-    'remove_pb_on_note_wave': ('remove_reserve', ['let target = bend();'], ['target'], '(pos 129)'),
+    'remove_cc_on': ('remove_reserve', ['let target = drawing::cc_target(number);'], ['target']),
+    'set_cc_on_note': ('set_on_note', ['let target = drawing::cc_target(number);'], ['target', 'list']),
+    'set_cc_on_note_wave': ('set_on_note_wave', ['let target = drawing::cc_target(number);', 'let mode = as_it_is();'], ['target', 'mode', 'list']),
+    'set_pb_on_note_wave': ('set_on_note_wave', ['let target = drawing::pb_target(big);', 'let mode = as_it_is();'], ['target', 'mode', 'list']),
+    'remove_pb_on_note_wave': ('remove_reserve', ['let target = bend();'], ['target']),
 }
-DEFINED = {'remove_reserve': 'removeReserve {here} {target}', 'set_on_note': 'setOnNote {here} {target} (list .now)', 'set_on_note_wave': 'setOnNoteWave {here} {target} {mode} (list .now)'}
 
 # What a call by value answers: where it stands, the record that is said of it, and what that says.
 ANSWERS = {
@@ -103,8 +98,9 @@ LETTER = {'track': 't', 'value': 'v', 'budget': 'b', 'count': 'n', 'option': 'o'
 HOME = {**{k: v[0] for k, v in ANSWERS.items()}, 'Answer': 'lending', 'Track': 'state', 'Budget': 'budget', 'Cycle': 'cycles', 'WriteOption': 'values', 'OnNoteSine': 'tables',
         'NoteParam': 'params', 'Layers': 'layers', 'Event': 'events', 'Made': 'events', 'OnCycleTime': 'reserved', 'BudgetAnswer': 'budget', 'SineAnswer': 'tables',
         'CycleTimeAnswer': 'reserved'}
+WORD = r"(?<![\w'\-.])%s(?![\w'\-])"
 LENT = ('track', 'param', 'layers', 'event', 'cycle', 'budget', 'count')  # by value to the call, by reference here
-ALONE = ('eventlist', 'sorting', 'notes', 'cutting', 'chunks', 'reader', 'profile')  # calls that are lent slices and numbers alone: the prover covers them, and no walk is written
+ALONE = ('eventlist', 'sorting', 'notes', 'cutting', 'chunks', 'reader', 'profile')  # calls that are lent slices and numbers alone: their answers are read field by field
 
 
 def left_of(answer):
@@ -116,11 +112,15 @@ def snake(name):
 
 
 def fields(name):
-    return walk.fields_of(HOME[name], name)
+    return re.findall(r'pub (\w+): ([^,]+),', re.search(r'pub struct %s \{(.*?)\n\}' % name, code_of(HOME[name]), re.S)[1])
 
 
 def denot(t):
     return {'u32': 'ℕ', 'usize': 'ℕ', 'i32': 'ℤ', 'i64': 'ℤ'}.get(t, re.sub(r'\[(\w+); \w+\]', r'List \1', t))
+
+
+def code_of(crate):
+    return open(f'crates/{crate}/src/lib.rt').read()
 
 
 def wrapped(text):
@@ -130,6 +130,43 @@ def wrapped(text):
             lines.append(line); line = '//'
         line += ' ' + word
     return '\n'.join(lines + [line])
+
+
+def split_commas(s):
+    out, depth, cur = [], 0, ''
+    for ch in s:
+        depth += (ch in '([{<') - (ch in ')]}>')
+        if ch == ',' and depth == 0:
+            out.append(cur.strip()); cur = ''
+        else:
+            cur += ch
+    return [x for x in out + [cur.strip()] if x]
+
+
+class Call:
+    """A function or a method by value: its comment, its parameters as (name, kind, type), its result, and its contract."""
+    def __init__(self, crate, name):
+        owner, _, short = name.rpartition('::')
+        text = code_of(crate)
+        if owner:
+            text = '\n'.join(b for b in re.findall(r'^impl %s \{\n(.*?)^\}' % owner, text, re.S | re.M))
+        self.crate, self.name, self.owner = crate, short, owner
+        m = re.search(r'((?: *//[^\n]*\n)*)(?: *#\[[^\n]*\n)* *(?:pub )?fn %s\((.*?)\)(?: -> (\w+|\[\w+; \w+\]))?\s*\n(.*?)\n *\{\n' % short, text, re.S)
+        self.comment = ' '.join(l.strip().removeprefix('//').strip() for l in m[1].strip().split('\n'))
+        self.result, self.params = m[3], []
+        for p in split_commas(m[2]):
+            if p in ('self', 'mut self'):
+                self.params.append(('self', 'val', owner)); continue
+            n, t = [x.strip().removeprefix('mut ') for x in p.split(':')]
+            for kind, pat in (('table', r'&mut \[(\w+)\]'), ('slice', r'&\[(\w+)\]'), ('ref', r'&mut (\w+)'), ('val', r'(\w+|\[\w+; \w+\])')):
+                k = re.fullmatch(pat, t)
+                if k:
+                    self.params.append((n, kind, k[1])); break
+        assert 'requires' not in m[4], f'{name} has a requires'
+        self.ensures = re.sub(r'\s+', ' ', re.fullmatch(r'\s*ensures \{ (.*) \}', m[4], re.S)[1]).replace('«', '').replace('»', '')
+
+
+WIDE = 100  # of code
 
 
 class Export:
@@ -167,57 +204,52 @@ class Export:
         self.stores = [f for f in self.fields if f != 'code' and f not in given]
 
     def says(self):
-        """The definitions of the answer and of the list that is left; how the call's contract, e1, gives the one, and what else it gives."""
-        e, self.left, self.eq, self.rest = self.g.ensures, None, 'e1', {}
-        drawn = re.fullmatch(r'Drawn \((.*)\) r \(now \(events \.exit\)\)', e)
-        reserved = re.fullmatch(r'Reserved \((.*)\) r \(now \(cycles \.exit\)\)', e)
-        cycled = re.fullmatch(r'\(r ≡ answerOf \((.*?)\)\) × \(now \(cycles .*\(now \(events \.exit\) ≡ (.*)\)', e)
-        both = re.fullmatch(r'\(r ≡ (.*)\) × \(now \((?:events|out) \.exit\) ≡ (.*)\)', e)
+        """The definitions of the answer and of the list that is left."""
+        e, self.left = self.g.ensures, None
+        drawn = re.fullmatch(r'Drawn \((.*)\) result events\.new', e)
+        reserved = re.fullmatch(r'Reserved \((.*)\) result cycles\.new', e)
+        cycled = re.fullmatch(r'\(result ≡ answer_of \((.*?)\)\) × \(cycles\.new .*\(events\.new ≡ (.*)\)', e)
+        both = re.fullmatch(r'\(result ≡ (.*)\) × \((?:events|out)\.new ≡ (.*)\)', e)
         if drawn:
-            is_, self.left, self.eq, self.rest = f'drawAnswer ({drawn[1]})', f'drawLeft ({drawn[1]})', '(e1 .answer)', {'events': 'e1 .left'}
+            is_, self.left = f'draw_answer ({drawn[1]})', f'draw_left ({drawn[1]})'
         elif reserved:
-            is_, self.eq, self.rest = reserved[1], '(e1 .answer)', {'cycles': 'e1 .left'}
-        elif cycled:
-            is_, self.left, self.eq, self.rest = cycled[1], cycled[2], '(e1 .0)', {'cycles': 'e1 .1', 'budget': 'e1 .2', 'events': 'e1 .3'}
-        elif both:
-            is_, self.left, self.eq, self.rest = both[1], both[2], '(e1 .0)', {'events': 'e1 .1'}
+            is_ = reserved[1]
+        elif cycled or both:
+            is_, self.left = (cycled or both).groups()
         else:
-            is_ = re.fullmatch(r'r ≡ (.*)', e)[1]
+            is_ = re.fullmatch(r'result ≡ (.*)', e)[1]
         if self.by_target:
-            is_ = is_.replace(' size cycles', ' (length (now (cycles .entry))) (now (cycles .entry))')
+            is_ = is_.replace(' size cycles', ' (length cycles.old) cycles.old')
         self.is_, self.left = self.lent(is_), self.left and self.lent(self.left)
 
     def lent(self, text):
         """A definition's text, with what is by value there read where it is lent here."""
         for a, b in (('is_big', 'big'), ('self', self.params[0][0] if self.params else '')) + (('length', 'len'),) * any(n == 'length' for n, _, _ in self.g.params):
-            text = re.sub(walk.WORD % a, b, text)
-        names = [n for n, t in self.params if t.startswith('&') and '[' not in t]
-        if names:
-            text = re.sub(walk.WORD % f'({"|".join(names)})', lambda m: f'(now ({m[1]} .entry))', text)
-        return re.sub(r'now \(\(now \((\w+) \.entry\)\) \.entry\)', r'now (\1 .entry)', text)
+            text = re.sub(WORD % a, b, text)
+        ways = {n: 'old' if t.startswith('&mut') else 'now' for n, t in self.params if t.startswith('&') and '[' not in t}
+        return re.sub(WORD % r'(\w+)', lambda m: f'{m[1]}.{ways[m[1]]}' if m[1] in ways and not re.match(r'\.(old|now|new)\b', text[m.end():]) else m[1], text)
 
     def cites(self):
         """The definitions that the contract cites: module and name."""
         text, own, out = f'{self.is_} {self.left or ""}', [n for n, _ in self.params], []
-        for module, names in re.findall(r'ghost use ([^;{]*)\.\{([^}]*)\};', walk.source(self.g.crate)):
-            if self.g.crate != 'ctrack':
-                module = module.replace(f'Rattle·{self.g.crate}·specs.specs', f'Rattle·{self.g.crate}.specs')
-            out += [(module, n) for n in re.split(r',\s*', names) if not n.startswith('_') and walk.used(n, text) and n not in own]
-        return out + [('Rattle·drawing.specs.Calls', n) for n in ('drawAnswer', 'drawLeft') if walk.used(n, text)]
+        used = lambda n: re.search(WORD % re.escape(n), text)
+        for module, names in re.findall(r'ghost use (Rattle\.(?!std\b)[^;{]*)\.\{([^}]*)\};', code_of(self.g.crate)):
+            out += [(module, n) for n in re.split(r',\s*', names) if used(n) and n not in own]
+        return out + [('Rattle.drawing.specs.Calls', n) for n in ('draw_answer', 'draw_left') if used(n)]
 
     # ---- the function
     def contract(self, alias):
-        text = lambda x: re.sub(walk.WORD % '([A-Za-z]+)', lambda m: alias.get((self.name, m[1]), m[1]), x)
+        text = lambda x: re.sub(WORD % r'(\w+)', lambda m: alias.get((self.name, m[1]), m[1]), x)
         if self.whole:
-            return f'r ≡ {text(self.is_)}'
+            return f'result ≡ {text(self.is_)}'
         if self.answer == 'u32':
-            return f'(r ≡ {text(self.is_)}) × (now (events .exit) ≡ {text(self.left)})'
-        now = ['r'] + [f'(now ({self.out[f].replace("out_count", "«out_count»")} .exit))' for f in self.fields if f != 'code']
+            return f'(result ≡ {text(self.is_)}) × (events.new ≡ {text(self.left)})'
+        now = ['result'] + [f'{self.out[f]}.new' for f in self.fields if f != 'code']
         if self.left:
-            now.append(f'(now ({"out" if self.g.name in OUTPUT else "events"} .exit))')
+            now.append(f'{"out" if self.g.name in OUTPUT else "events"}.new')
         parts = [f'({text(x)})' for x in (self.is_, self.left) if x] + [' '.join(now)]
         one = f'{ANSWERS[self.answer][1]} {" ".join(parts)}'
-        return one if len(one) < 150 else ANSWERS[self.answer][1] + ' ' + '\n        '.join(parts)
+        return one if len(one) + 9 * len(re.findall(r'\.(?:old|new|now)\b', one)) < 150 else ANSWERS[self.answer][1] + ' ' + '\n        '.join(parts)
 
     def comment(self):
         c = self.g.comment
@@ -244,67 +276,21 @@ class Export:
         if self.by_target:
             call, lets, args = f'loans::{self.by_target[0]}', self.by_target[1], ', '.join(['*track', 'cycles'] + self.by_target[2])
         part = lambda f: f'r.{f}' if g.crate in ALONE else f'{snake(self.result)}_{f}(r)'
-        return '\n'.join([f'    {l}' for l in lets] + [f'    let r = {call}({args});'] + [f'    *{self.out[f]} = {part(f)};' for f in self.stores] + [f'    {part("code")}'])
+        made = f'    let r = {call}({args});'
+        if len(made) > WIDE:
+            made = f'    let r = {call}(\n        {args},\n    );'
+        return '\n'.join([f'    {l}' for l in lets] + [made] + [f'    *{self.out[f]} = {part(f)};' for f in self.stores] + [f'    {part("code")}'])
 
-    def text(self, alias):
-        ps = ', '.join(f'{n}: {t}' for n, t in self.params)
-        return (f'{self.comment()}\n#[no_mangle]\npub extern "C" fn {self.name}({ps}) -> {self.answer if self.whole else "u32"}\n'
-                f'    ensures {{ λ r. ⌜ {self.contract(alias)} ⌝ }}\n{{\n{self.body()}\n}}\n')
+    def text(self, alias, way):
+        return (f'{self.comment()}\n{way} {listed(self.name, self.params, self.answer if self.whole else "u32", way)}\n'
+                f'    ensures {{ {self.contract(alias)} }}\n{{\n{self.body()}\n}}\n')
 
-    # ---- its proof
-    def prove(self, wanted):
-        if not any(re.match(r'&(mut )?[A-Z]', t) for _, t in self.params):
-            self.hand_on()
-        elif wanted:
-            thin.prove(self.name, self.about())
-        else:
-            thin.law_of(thin.Lent(self.name))
 
-    def hand_on(self):
-        """Where no record is lent: the call's contract, in which a number with a sign stands as the machine has it."""
-        d, alone = self.g.dash, self.g.crate in ALONE
-        signed = [n for n, t in self.params if t in ('i32', 'i64')]
-        if self.answer == 'u32' or not (signed or alone):
-            return
-        bytes_back = any(t == '&mut [u8]' for _, t in self.params)  # what comes back in an output of bytes is told in a step of its own
-        leaves = alone and self.left is not None  # a list or an output, whose length is kept
-        said = f'c{" .before" * (leaves + bytes_back)} .{d} .ensures'
-        start = 'c' + ' .before' * (5 if alone else 1 + any(t == '&[u8]' for _, t in self.params))
-        if signed:
-            said = f'rw ({", ".join(f"toZ-ofZ (s .fits .{n})" for n in signed)}) at ({said})'
-        if self.answer in ('i32', 'i64'):
-            said = f'toZ-ofZ {{w = w{self.answer[1:]}}} (sfits-of (c .{d} .ok)) ∙ ({said})'
-        if alone:
-            parts = [f'{f} = ap (λ (t : {self.answer}). t .{f}) {"(e .0)" if leaves else "e"}' for f in self.fields] + [f'{left_of(self.answer)} = e .1'] * leaves
-            said = f'let e = {said} in record {{ {"; ".join(parts)} }}'
-        if signed:
-            said = f'let s = {start} in {said}'
-        m, spec = f'Rattle·ctrack·proofs.proofs.{self.name}', self.name.replace('_', '-') + '-spec'
-        out = [f'-- `{self.name}` is `{self.ref}`. Written by tools/ctrack.py.', 'use borrow.Author.Needs.{needs}']
-        out += ['use mathlib.Core.Path.{ap}', f'use Rattle·{HOME.get(self.answer)}.specs.declared.{self.answer}.{{{self.answer}}}'] * alone + ['use mir.Facts.{toZ-ofZ}'] * bool(signed)
-        if self.answer in ('i32', 'i64'):
-            out[1:] = ['use mathlib.Core.Path.{_∙_}', f'use mir.Syntax.{{w{self.answer[1:]}}}', 'use mir.Facts.{toZ-ofZ}', 'use borrow.Author.Needs.{needs, sfits-of}']
-        out += [f'use {m}.Statement.{{statement}}', f'use {m}.Tie as tie', '', f'{d}-requires : tie.Need-{d}-requires', f'{d}-requires c κs = search needs', '']
-        out += ['same-length : tie.Need-same-length', 'same-length c = search needs', ''] * leaves + ['returns : tie.Need-returns', f'returns c = {said}', '']
-        out += [f'pub {spec} : {{M : Type 1}} → statement M', f'{spec} = tie.close (tie.spec {d}-requires {"same-length " * leaves}returns)', '']
-        os.makedirs(f'crates/ctrack/proofs/{self.name}', exist_ok=True)
-        open(f'crates/ctrack/proofs/{self.name}/Proof.antt', 'w').write('\n'.join(out))
-
-    def about(self):
-        """Where a record is lent: what proves the contract, of the facts e1, e2, .. that the calls say in their order."""
-        eq, rest, main = self.eq, self.rest, 1
-        if self.by_target:
-            name, lets, _, target = self.by_target
-            main = len(lets) + 1
-            at = lambda t, m: DEFINED[name].format(here='(track .now) (length (cycles .now)) (cycles .now)', target=t, mode=m)
-            path = [f'ap (λ (z : ℤ). {at("z", "r2")}) e1'] + [f'ap (λ (z : ℕ). {at(target, "z")}) e2'] * (main == 3)
-            path = f'({" ∙ ".join(path)})'
-            eq, rest = f'(e{main} .answer ∙ ap kept {path})', {'cycles': f'e{main} .left ∙ ap (λ (v : Kept). v .cycles) {path}'}
-        term = {f: f'e{main + i} ∙ ap (λ (v : {self.result}). v .{f}) {eq}' for i, f in enumerate(self.stores + ['code'], 1)}
-        term.update(rest)
-        ends = '; '.join(f'{f} = {term[f]}' for f in [*self.fields] + ['events'] * bool(self.left))
-        return dict(head=f'what is lent is handed to `{self.ref}` and comes back as that leaves it.', ends=f'(record {{ {ends} }})',
-                    uses=['use Rattle·loans.specs.Lent.{kept}', 'use Rattle·reserving.specs.declared.Kept.{Kept}'] * bool(self.by_target))
+def listed(name, params, result, way):
+    """A function's head, over several lines where one is too short."""
+    ps = [f'{n}: {t}' for n, t in params]
+    head = f'{name}({", ".join(ps)}) -> {result}'
+    return head if len(way.split('\n')[-1]) + 1 + len(head) <= WIDE else '\n'.join([f'{name}('] + [f'    {p},' for p in ps] + [f') -> {result}'])
 
 
 def exports():
@@ -322,24 +308,26 @@ def exports():
 HEAD = '''// The calls as a C program makes them, by the names of docs/API.md after `dollavir_`. A record that a call changes is lent by `&mut`, one
 // that it reads by `&`; what a call answers besides its number goes to where its last parameters point. The number is that of
 // document 01's table. Refused, all that is lent stays as it is, and a value that is answered is 0. Written by tools/ctrack.py.
+#![tactic(auto)]
+
 '''
-OWN_CITES = {'Rattle·reserving.specs.Old': ['normal'], 'Rattle·sines.specs.Kinds': ['numberOf', 'sineType'], 'Rattle·reserved.specs.Cycle': ['said', 'calcOf'], 'Rattle·ctrack·specs.specs.Kinds': ['toldOf']}
+OWN_CITES = {'Rattle.reserving.specs.Old': ['normal'], 'Rattle.sines.specs.Kinds': ['number_of', 'sine_type'], 'Rattle.reserved.specs.Cycle': ['said', 'calc_of'], 'Rattle.ctrack.specs.Kinds': ['told_of']}
 OWN = '''// What the setters of a controller or a bend hand to those of a target: a wave as it is, and the code of the bends.
 fn as_it_is() -> u32
-    ensures { λ r. ⌜ r ≡ normal ⌝ }
+    ensures { result ≡ normal }
 {
     0
 }
 
 fn bend() -> i32
-    ensures { λ r. ⌜ r ≡ pos 129 ⌝ }
+    ensures { result ≡ pos 129 }
 {
     129
 }
 
 // The kind of a sine as a number: 0 the full turn, 1 and 2 the quarters up and down.
 fn shape_of(kind: SineType) -> u32
-    ensures { λ r. ⌜ r ≡ numberOf kind ⌝ }
+    ensures { result ≡ number_of kind }
 {
     match kind {
         SineType::Sine => 0,
@@ -349,6 +337,7 @@ fn shape_of(kind: SineType) -> u32
 }
 
 // What a cycle over time answers, in numbers: `found` is 1 where it has a value, else 0.
+#[derive(Clone, Copy)]
 pub struct CycleTold {
     pub code: u32,
     pub found: u32,
@@ -356,18 +345,30 @@ pub struct CycleTold {
 }
 
 fn cycle_told(answer: CycleValue) -> CycleTold
-    ensures { λ r. ⌜ r ≡ toldOf (said answer) ⌝ }
+    ensures { result ≡ told_of (said answer) }
 {
     match answer {
-        CycleValue::Value(value) => CycleTold { code: 0, found: 1, value: value },
-        CycleValue::Nothing => CycleTold { code: 0, found: 0, value: 0 },
-        CycleValue::Refused => CycleTold { code: 4, found: 0, value: 0 },
+        CycleValue::Value(value) => CycleTold {
+            code: 0,
+            found: 1,
+            value: value,
+        },
+        CycleValue::Nothing => CycleTold {
+            code: 0,
+            found: 0,
+            value: 0,
+        },
+        CycleValue::Refused => CycleTold {
+            code: 4,
+            found: 0,
+            value: 0,
+        },
     }
 }
 
 // The value of a cycle at `timepos`, and in `found` whether it has one: none before the start, and none of a cycle without values or with a length of 0 or less. Refuses 4.
 fn cycle_time_calc(cycle: OnCycleTime, timepos: i64) -> CycleTold
-    ensures { λ r. ⌜ r ≡ toldOf (calcOf cycle timepos) ⌝ }
+    ensures { result ≡ told_of (calc_of cycle timepos) }
 {
     let answer = cycle.calc(timepos);
     cycle_told(answer)
@@ -376,9 +377,8 @@ fn cycle_time_calc(cycle: OnCycleTime, timepos: i64) -> CycleTold
 SINE_TYPE = '''// ---- the kind of a sine
 // The kind of a sine that a number names, as `write_sine` takes it: 1 and 2 the quarters up and down, any other number the full
 // turn, which is 0. Refuses nothing.
-#[no_mangle]
-pub extern "C" fn dollavir_sine_type(v: i32) -> u32
-    ensures { λ r. ⌜ r ≡ numberOf (sineType v) ⌝ }
+{way} dollavir_sine_type(v: i32) -> u32
+    ensures { result ≡ number_of (sine_type v) }
 {
     let wide = widened(v);
     let kind = SineType::from_i(wide);
@@ -391,11 +391,11 @@ def ghost_uses(modules):
     return [f'ghost use {m}.{{{", ".join(names)}}};' for m, names in modules.items()]
 
 
-def source():
+def written():
+    """The two files: path and text."""
     path = 'crates/ctrack/src/lib.rt'
-    if not os.path.exists(path) or 'fn cycle_time_calc' not in open(path).read():
-        os.makedirs(os.path.dirname(path), exist_ok=True)
-        open(path, 'w').write('\n'.join(ghost_uses(OWN_CITES) + [OWN]))  # what the table's last call is read from
+    stands = open(path).read()
+    way = re.search(r'((?:#\[unsafe\(no_mangle\)\]\n)?pub (?:extern "C" )?fn) dollavir_track_new\(', stands)[1]
     sections = exports()
     every = [x for _, xs in sections for x in xs]
     lent = [x for x in every if x.fields]
@@ -406,45 +406,53 @@ def source():
             cited.setdefault(n, {}).setdefault(module, []).append(x)
     for n, modules in cited.items():
         for i, (module, xs) in enumerate(modules.items()):
-            short = n if i == 0 else re.match(r'Rattle·(\w+)', module)[1] + n[0].upper() + n[1:]
+            short = n if i == 0 else re.match(r'Rattle\.(\w+)', module)[1] + '_' + n
             uses.setdefault(module, []).append(n if short == n else f'{n} as {short}')
             alias.update({(x.name, n): short for x in xs})
     records = dict.fromkeys(ANSWERS[x.answer][1] for x in lent)
     types = set(re.findall(r'[A-Z]\w*', ' '.join(t for x in every for _, t in x.params)))
     types |= {x.g.owner for x in every if x.g.owner} | {x.result for x in every if x.g.crate not in ALONE and x.result[0].isupper()}
-    out = [HEAD + 'ghost use mathlib.Core.Path.{_≡_};', 'ghost use lib.IntN.{pos};']
+    out = [HEAD + 'ghost use Rattle.std.specs.Prelude.{◌≡◌, pos, length};']
     for module, names in OWN_CITES.items():
         uses[module] = list(dict.fromkeys(uses.get(module, []) + names))
-    out += ghost_uses(uses) + ghost_uses({'Rattle·ctrack·specs.specs.Lent': records})
-    out += sorted([f'use {HOME[t]}::{t};' for t in types if HOME[t] != 'ctrack'] + ['use reserved::CycleValue;', 'use sines::SineType;', 'use values::widened;'])
+    out += ghost_uses(uses) + ghost_uses({'Rattle.ctrack.specs.Lent': records}) + ['']
+    brought = {}
+    for t in sorted(types) + ['CycleValue', 'SineType', 'widened']:
+        home = {'CycleValue': 'reserved', 'SineType': 'sines', 'widened': 'values'}.get(t) or HOME[t]
+        if home != 'ctrack':
+            brought.setdefault(home, set()).add(t)
+    out += [f'use {home}::{sorted(ts)[0]};' if len(ts) == 1 else f'use {home}::{{{", ".join(sorted(ts))}}};' for home, ts in sorted(brought.items())]
     out += ['', '// The parts of what a call by value answers.']
     for a, f in dict.fromkeys((x.result, f) for x in lent if x.g.crate not in ALONE for f in x.stores + ['code']):
-        out.append(f'fn {snake(a)}_{f}(a: {a}) -> {dict(fields(a))[f]}\n    ensures {{ λ r. ⌜ r ≡ a .{f} ⌝ }}\n{{\n    a.{f}\n}}\n')
+        out.append(f'fn {snake(a)}_{f}(a: {a}) -> {dict(fields(a))[f]}\n    ensures {{ result ≡ a.{f} }}\n{{\n    a.{f}\n}}\n')
     out.append(OWN)
     for title, xs in sections:
-        out += [f'// ---- {title[0].lower() + title[1:]}'] + [x.text(alias) for x in xs]
-    open(path, 'w').write('\n'.join(out + [SINE_TYPE]))
+        out += [f'// ---- {title[0].lower() + title[1:]}'] + [x.text(alias, way) for x in xs]
     # what the contracts say
     spec = ['-- What a call that is lent its records promises: of what the call by value is defined to answer and to leave, its number and all that',
             '-- is lent, as it is afterwards. A call\'s own definition stands with the call by value. Written by tools/ctrack.py.',
-            'use mathlib.Core.Path.{_≡_}', 'use mathlib.Core.List.{List}', 'use Prim.Native.Nat.{ℕ}', 'use lib.IntN.{ℤ}']
+            'use Rattle.std.specs.Prelude.{◌≡◌, List, ℕ, ℤ}']
     answers = list(dict.fromkeys(x.answer for x in lent))
     for t in dict.fromkeys(t for a in answers for t in [a] + re.findall(r'[A-Z]\w+', ' '.join(denot(t) for _, t in fields(a)).replace('List ', ''))):
-        spec.append(f'use Rattle·{HOME[t]}{"·specs" * (HOME[t] == "ctrack")}.specs.declared.{t}.{{{t}}}')
+        spec.append(f'use Rattle.{HOME[t]}.specs.declared.{t}.{{{t}}}')
     for a in answers:
         (_, name, about), listed = ANSWERS[a], a in LISTED
         parts = [(f, t) for f, t in fields(a) if f != 'code']
         of = LISTED.get(a)
         args = f'(a : {a})' + f' (l : List {of})' * listed + ' (r : ℕ)' + ''.join(f' ({LETTER[f]} : {denot(t)})' for f, t in parts) + f' (m : List {of})' * listed
-        spec += ['', f'-- {about}', f'pub record {name} {args} : Type 0 where', '  pub code : r ≡ a .code'] + [f'  pub {f} : {LETTER[f]} ≡ a .{f}' for f, _ in parts] + [f'  pub {left_of(a)} : m ≡ l'] * listed
-    open('crates/ctrack/specs/Lent.antt', 'w').write('\n'.join(spec) + '\n')
+        spec += ['', f'-- {about}', f'pub record {name} {args} : Type 0 where', '  pub code : r ≡ a.code'] + [f'  pub {f} : {LETTER[f]} ≡ a.{f}' for f, _ in parts] + [f'  pub {left_of(a)} : m ≡ l'] * listed
+    return {path: '\n'.join(out + [SINE_TYPE.replace('{way}', way)]), 'crates/ctrack/specs/Lent.antt': '\n'.join(spec) + '\n'}
+
+
+def main():
+    stale = {path: text for path, text in written().items() if open(path).read() != text}
+    if sys.argv[1:] == ['--check']:
+        if stale:
+            sys.exit(f'ctrack: {" and ".join(stale)} are not what tools/ctrack.py writes')
+    else:
+        for path, text in stale.items():
+            open(path, 'w').write(text)
 
 
 if __name__ == '__main__':
-    if sys.argv[1:] == ['source']:
-        source()
-    else:
-        for _, xs in exports():
-            for x in xs:
-                x.prove(not sys.argv[1:] or x.name in sys.argv[1:])
-        thin.write_known()
+    main()

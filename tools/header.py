@@ -1,5 +1,5 @@
 #!/usr/bin/env python3
-"""What a client of the library is told, from the sources: the exported functions of crates/ctrack and the records in their types.
+"""What a client of the library is told, from the sources: the functions `dollavir_X` of crates/ctrack, which are exported by these names, and the records in their types.
 
     python3 tools/header.py            in the repository's folder: writes
         include/dollavir.h             types, prototypes, and the size, alignment and every offset of each type as _Static_assert
@@ -13,6 +13,7 @@ CRATE = 'ctrack'
 C = {'u8': 'uint8_t', 'u32': 'uint32_t', 'u64': 'uint64_t', 'usize': 'size_t', 'i32': 'int32_t', 'i64': 'int64_t'}
 BYTES = {'u8': 1, 'u32': 4, 'i32': 4, 'u64': 8, 'i64': 8, 'usize': 8}
 LIMIT = 'LIST_LIMIT'  # of `counted`; a client has it under the same name
+STRUCT = r'#\[repr\(C\)\]\n(?:#\[derive\([^)]*\)\]\n)?'  # what stands before a record
 LAYOUT = 2  # one more whenever a record's size or a field's place changes
 
 
@@ -26,15 +27,8 @@ def constant(name, crate):
 
 
 def homes_of(text):
-    """The crate of each name that a file imports."""
-    found = {}
-    for crate, names in re.findall(r'^(?:pub )?use (\w+)::(\{[^}]*\}|\w+);', text, re.M):
-        found.update({n.strip(): crate for n in names.strip('{}').split(',') if n.strip()})
-    return found
-
-
-def crates():
-    return [l.split(':')[0].split()[0] for l in open('crates.txt') if ':' in l and not l.startswith('#')]
+    """Of each name that the file brings in the crate that it comes from."""
+    return {s: c for c, names in re.findall(r'^(?:pub )?use (\w+)::([^;]*);', text, re.M) for s in re.findall(r'\w+', names)}
 
 
 class Library:
@@ -42,7 +36,7 @@ class Library:
     types reach, inner ones first."""
     def __init__(self):
         text = source(CRATE)
-        shape = r'((?:^//[^\n]*\n)+)pub fn (dollavir_\w+)\((.*?)\)(?: -> (\w+))?\s*\n'
+        shape = r'((?:^//[^\n]*\n)+)(?:#\[unsafe\(no_mangle\)\]\n)?pub (?:extern "C" )?fn (dollavir_\w+)\((.*?)\)(?: -> (\w+))?\s*\n'
         self.functions, self.titles = [], {}
         for comment, name, params, result in re.findall(shape, text, re.S | re.M):
             lines = [l.removeprefix('//').strip() for l in comment.strip().split('\n') if not l.startswith('// ----')]
@@ -60,7 +54,7 @@ class Library:
         if name in self.structs:
             return
         text = source(crate)
-        m = re.search(r'#\[repr\(C\)\]\n(?:#\[derive\([^)]*\)\]\n)?pub struct %s \{\n(.*?)\n\}' % name, text, re.S)
+        m = re.search(STRUCT + r'pub struct %s \{\n(.*?)\n\}' % name, text, re.S)
         if not m:
             sys.exit(f'{crate}: no #[repr(C)] struct {name}')
         homes = homes_of(text)
@@ -73,7 +67,7 @@ class Library:
             if of[0].isupper():
                 self.reach(of, homes.get(of, crate))
             fields.append((f, of, n))
-        about = re.search(r'((?:^//[^\n]*\n)*)#\[repr\(C\)\]\n(?:#\[derive\([^)]*\)\]\n)?pub struct %s ' % name, text, re.M)[1]
+        about = re.search(r'((?:^//[^\n]*\n)*)' + STRUCT + 'pub struct %s ' % name, text, re.M)[1]
         self.structs[name] = (crate, fields, ' '.join(l.removeprefix('//').strip() for l in about.strip().split('\n')))
 
     def bytes_of(self, t):
@@ -191,14 +185,14 @@ def rust(lib):
     return '\n'.join(out[:-1] + ['}', ''])
 
 
-TYPES = ['(ty_int w)', 'ty_bool', '(ty_float f)', 'ty_ptr', '(ty_ref κ μ τ)', '(ty_array τ n)', 'ty_unit', '(ty_enum ν τss)', '(ty_named ν τs)', '(ty_param k)', '(ty_const k)', '(ty_array_p τ k)']
+TYPES = ['(ty_int w)', 'ty_bool', '(ty_float f)', 'ty_ptr', '(ty_ref κ μ τ)', '(ty_array τ n)', 'ty_unit', '(ty_enum ν τss)', '(ty_param n)', '(ty_const n)', '(ty_array_p τ n)', '(ty_named ν τs)']
 
 
 def theorems(lib):
     out = ['-- Where the fields of each record lie that the library is handed or hands out, as the machine has them: its size, its alignment, and the place',
            '-- of each field. include/dollavir.h asserts the same numbers of the same records. Made by tools/header.py.',
            'use mathlib.Core.Path.{◌≡◌, refl}', 'use mathlib.Core.List.{List, [], ◌∷◌}', 'use Prim.Native.Nat.{ℕ, zero, ◌+◌}',
-           'use mir.Syntax.{Ty, Tys, tnil, tcons, ty_int, ty_bool, ty_float, ty_ptr, ty_ref, ty_array, ty_unit, ty_struct, ty_enum, ty_named, ty_param, ty_const, ty_array_p}', 'use prog.Memory.{size, align, up}']
+           'use mir.Syntax.{Ty, Tys, tnil, tcons, ty_int, ty_bool, ty_float, ty_ptr, ty_ref, ty_array, ty_unit, ty_struct, ty_enum, ty_param, ty_const, ty_array_p, ty_named}', 'use prog.Memory.{size, align, up}']
     for name, (crate, _, _) in lib.structs.items():
         out.append(f"use Rattle.{crate}.proofs.{name}.TheLaws as {name}'")
     out += ['', '-- the place of each field, where the first may stand at k', 'abbrev pub places : ℕ → Tys → List ℕ', 'places k tnil = []',
@@ -208,7 +202,7 @@ def theorems(lib):
     for name in lib.structs:
         size, align, places = lib.layout(name)
         low = snake(name).removeprefix('dollavir_').replace('_', '-')
-        out += ['', f'pub {low}-lies : lies {name}\'.mir ≡ ' + ' ∷ '.join(map(str, [size, align] + places)) + ' ∷ []', f'{low}-lies = refl']
+        out += ['', f"pub {low}-lies : lies {name}'.mir ≡ " + ' ∷ '.join(map(str, [size, align] + places)) + ' ∷ []', f'{low}-lies = refl']
     return '\n'.join(out) + '\n'
 
 

@@ -11,9 +11,8 @@ import os, re, sys
 
 TOP = os.path.dirname(os.path.dirname(os.path.abspath(__file__)))
 WIDE, HIGH, ACROSS, UP = 92, 26, 14, 62  # a box, and the room between boxes and between rows
-KIT = {'io', 'libc'}  # the toolchain's own libraries are not drawn
 COLOURS = [
-    ('#e8eef7', 'laws, numbers, lists', {'laws', 'numbers', 'budget', 'events', 'eventlist', 'counted', 'shapes', 'sines', 'values', 'text', 'quantities'}),
+    ('#e8eef7', 'laws, numbers, lists', {'laws', 'numbers', 'budget', 'events', 'eventlist', 'counted', 'shapes', 'sines', 'values', 'text', 'quantities', 'payments'}),
     ('#e9f5ea', 'what is done to the list', {'sorting', 'notes', 'cutting', 'chunks', 'passage'}),
     ('#fdf3df', 'parameters, reservations, curves', {'reserved', 'params', 'layers', 'offers', 'writing', 'cycles', 'tables'}),
     ('#f9e4e4', "the track and a product's calls",
@@ -45,7 +44,7 @@ def crates():
     for line in open(os.path.join(TOP, 'crates.txt')):
         if line.strip() and not line.startswith('#'):
             name, rest = line.split(':')
-            named[name.split()[0]] = [d for d in rest.split() if d not in KIT]
+            named[name.split()[0]] = rest.split()
     below = {}
     for name, direct in named.items():  # the lowest stand first
         below[name] = set(direct).union(*(below[d] for d in direct))

@@ -16,7 +16,7 @@ import os, re, sys
 
 PAGE, START, END = 'docs/PROOFS.md', '<!-- written by tools/theorems.py -->', '<!-- tools/theorems.py ends -->'
 PROOFS = 'crates/track/proofs'
-WORD = r"[^\s(){}⟨⟩⌜⌝,;:.λ→×≡]+"
+WORD = r"[^\s(){}⟨⟩,;:.λ→×≡]+"
 OWN = {'NoteParam': 'OfParam', 'Layers': 'OfLayers', 'Event': 'OfEvents', 'Track': 'OfTrack'}  # the record of a type's methods
 PLAIN = {'code', 'value', 'bytes', 'yes'}  # fields of an answer that leaves nothing
 
@@ -57,10 +57,10 @@ class Call:
 def calls():
     """In the order of the sources."""
     found = []
-    used = lambda text: {n.strip(): c for c, names in re.findall(r'^ghost use Rattle·(\w+)[^{]*\{(.*?)\};', text, re.S | re.M) for n in names.split(',')}
+    used = lambda text: {n.strip(): c for c, names in re.findall(r'^ghost use Rattle\.(?!std\b)(\w+)[^{]*\{(.*?)\};', text, re.S | re.M) for n in names.split(',')}
     for file in ('lib', 'lent'):
         text = read(f'crates/track/src/{file}.rt')
-        for crate, name in re.findall(r'^pub use (\w+)::(\w+);', text, re.M):
+        for crate, name in [(c, n) for c, names in re.findall(r'^pub use (\w+)::(.*?);', text, re.S | re.M) for n in re.findall(r'\w+', names)]:
             for path in files(f'crates/{crate}/src', '.rt'):
                 source = read(path)
                 if re.search(rf'^pub fn {name}\(', source, re.M):
@@ -111,12 +111,16 @@ class Theorems:
     def __init__(self, name):
         self.name = name
         text = re.sub(r'--[^\n]*', '', read(f'{PROOFS}/{name}.antt'))
-        self.fields = {}
+        self.fields, self.written = {}, {}  # a name's words are joined by - or by _
         for record, body in re.findall(r'^ *pub record (Of\w+)[^\n]*where\n(.*?)(?=\n\n|\Z)', text, re.S | re.M):
             for field, statement in re.findall(rf'^ *pub ({WORD}) :(.*?)(?=\n *pub |\Z)', body, re.S | re.M):
-                self.fields[record, field] = statement
+                self.add(record, field, statement)
         for theorem, statement in re.findall(rf'^pub ({WORD}) :(.*?)(?=\n(?:unfolding|{WORD} .*=))', text, re.S | re.M):
-            self.fields[None, theorem] = statement
+            self.add(None, theorem, statement)
+
+    def add(self, record, name, statement):
+        self.fields[record, kebab(name)] = statement
+        self.written[record, kebab(name)] = name
 
     def find(self, call, fields):
         """The first of these fields that stands in a record that this call's own theorem may stand in."""
@@ -135,8 +139,8 @@ class Theorems:
         return None
 
     def words(self, found):
-        record, field = found
-        return f'{self.name}: `{kebab(record)} .{field}`' if record else f'{self.name}: `{field}`'
+        record, field = found[0], self.written[found]
+        return f'{self.name}: `{kebab(record)}.{field}`' if record else f'{self.name}: `{field}`'
 
 
 def main():
@@ -179,7 +183,7 @@ def main():
         else:
             path = f'{"own" if call.crate == "track" else call.crate}.{call.of + "." if call.of else ""}{call.name}'
             statement = ' '.join(proofs['Once'].fields[proofs['Once'].find(call, whole[1:2] + whole[:1] if call.of not in OWN else whole[:1])].split())
-            if statement != f'Once 𝓤 H A {path}.ended ({path}.clauses 𝓤 H A mem run) ({path}.spec 𝓤 H A mem run)':
+            if statement != f'Once 𝓤 𝓛 {path}.ended ({path}.clauses 𝓛 mem run) ({path}.spec 𝓛 mem run)':
                 faults.append(f'{call.title()}: {once} is not over the contract of {path}')
         sound = field_of(call, ('Sound', 'SoundLent'), whole[:2] if call.of != 'Track' else whole[1:2], named, True)
         if not sound:

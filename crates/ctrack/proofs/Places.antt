@@ -3,7 +3,7 @@
 use mathlib.Core.Path.{◌≡◌, refl}
 use mathlib.Core.List.{List, [], ◌∷◌}
 use Prim.Native.Nat.{ℕ, zero, ◌+◌}
-use mir.Syntax.{Ty, Tys, tnil, tcons, ty_int, ty_bool, ty_float, ty_ptr, ty_ref, ty_array, ty_unit, ty_struct, ty_enum, ty_named, ty_param, ty_const, ty_array_p}
+use mir.Syntax.{Ty, Tys, tnil, tcons, ty_int, ty_bool, ty_float, ty_ptr, ty_ref, ty_array, ty_unit, ty_struct, ty_enum, ty_param, ty_const, ty_array_p, ty_named}
 use prog.Memory.{size, align, up}
 use Rattle.counted.proofs.Numbers.TheLaws as Numbers'
 use Rattle.reserved.proofs.Reserve.TheLaws as Reserve'
@@ -44,10 +44,10 @@ lies (ty_ref κ μ τ) = []
 lies (ty_array τ n) = []
 lies ty_unit = []
 lies (ty_enum ν τss) = []
+lies (ty_param n) = []
+lies (ty_const n) = []
+lies (ty_array_p τ n) = []
 lies (ty_named ν τs) = []
-lies (ty_param k) = []
-lies (ty_const k) = []
-lies (ty_array_p τ k) = []
 
 pub numbers-lies : lies Numbers'.mir ≡ 776 ∷ 8 ∷ 0 ∷ 8 ∷ []
 numbers-lies = refl

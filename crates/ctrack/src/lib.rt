@@ -1,4 +1,4 @@
-// The calls as a C program makes them, by the names of docs/API.md after `dollavir_`; the static library ctrack_c exports each under its name. A record that a call changes is lent by `&mut`, one
+// The calls as a C program makes them, by the names of docs/API.md after `dollavir_`. A record that a call changes is lent by `&mut`, one
 // that it reads by `&`; what a call answers besides its number goes to where its last parameters point. The number is that of
 // document 01's table. Refused, all that is lent stays as it is, and a value that is answered is 0. Written by tools/ctrack.py.
 #![tactic(auto)]

@@ -1,5 +1,5 @@
-// The functions of `ctrack` as C links them: each is exported under its own name, with the clauses that it has there, and hands on what it is handed.
-// Written by tools/ctrack_c.py from crates/ctrack/src.
+// The functions of `ctrack` under C's names, as a static library. Each hands on what it is handed to the function of its name and promises
+// what that promises; what a function does is said there. Written by tools/ctrack_c.py.
 #![tactic(auto)]
 
 ghost use Rattle.std.specs.Prelude.{◌≡◌, length};
@@ -48,8 +48,6 @@ use tables::{OnNoteSine, SineAnswer};
 use values::WriteOption;
 
 // ---- new records: a track, a budget, an unused cycle, an option, a sine, a cycle over time
-// A track at time 0 with nothing set; the channel is clamped to 0..15. Refuses 4, and then hands back a track of
-// timebase 0, which no call takes.
 #[unsafe(no_mangle)]
 pub extern "C" fn dollavir_track_new(timebase: i32, channel: i32) -> TrackAnswer
     ensures { result ≡ new_of timebase channel }
@@ -57,7 +55,6 @@ pub extern "C" fn dollavir_track_new(timebase: i32, channel: i32) -> TrackAnswer
     ctrack::dollavir_track_new(timebase, channel)
 }
 
-// Nothing used yet, the flag clear. Refuses 4, and then hands back a budget of zeros.
 #[unsafe(no_mangle)]
 pub extern "C" fn dollavir_budget_new(seed: u32, maximum: u32) -> BudgetAnswer
     ensures { result ≡ new_budget seed maximum }
@@ -65,7 +62,6 @@ pub extern "C" fn dollavir_budget_new(seed: u32, maximum: u32) -> BudgetAnswer
     ctrack::dollavir_budget_new(seed, maximum)
 }
 
-// What an unused place of a table of cycles holds.
 #[unsafe(no_mangle)]
 pub extern "C" fn dollavir_cycle_none() -> Cycle
     ensures { result ≡ no_cycle }
@@ -73,7 +69,6 @@ pub extern "C" fn dollavir_cycle_none() -> Cycle
     ctrack::dollavir_cycle_none()
 }
 
-// No delay, no random, no range, no repeat.
 #[unsafe(no_mangle)]
 pub extern "C" fn dollavir_write_option_new() -> WriteOption
     ensures { result ≡ new_option }
@@ -81,7 +76,6 @@ pub extern "C" fn dollavir_write_option_new() -> WriteOption
     ctrack::dollavir_write_option_new()
 }
 
-// A sine for a target's notes. Refuses 2, 4, and then hands back a sine of zeros.
 #[unsafe(no_mangle)]
 pub extern "C" fn dollavir_on_note_sine_new(
     target: i32,
@@ -96,7 +90,6 @@ pub extern "C" fn dollavir_on_note_sine_new(
     ctrack::dollavir_on_note_sine_new(target, shape, low, high, len, times)
 }
 
-// A cycle over time of its own. Refuses 3, 4, and then hands back a cycle of zeros.
 #[unsafe(no_mangle)]
 pub extern "C" fn dollavir_cycle_time_new(start: i64, len: i32, values: &[i32]) -> CycleTimeAnswer
     ensures { result ≡ new_cycle_time start len values.now }
@@ -105,7 +98,6 @@ pub extern "C" fn dollavir_cycle_time_new(start: i64, len: i32, values: &[i32]) 
 }
 
 // ---- a number in a range
-// Below `low` gives `low`, otherwise above `high` gives `high`, whichever of the two is the greater.
 #[unsafe(no_mangle)]
 pub extern "C" fn dollavir_value_range(low: i64, v: i64, high: i64) -> i64
     ensures { result ≡ range_of low v high }
@@ -114,7 +106,6 @@ pub extern "C" fn dollavir_value_range(low: i64, v: i64, high: i64) -> i64
 }
 
 // ---- the track's own numbers
-// Where the track stands: the time of what is written next. Refuses 4.
 #[unsafe(no_mangle)]
 pub extern "C" fn dollavir_set_timepos(track: &mut Track, timepos: i64) -> u32
     ensures { TrackLeft (set_timepos track.old timepos) result track.new }
@@ -122,7 +113,6 @@ pub extern "C" fn dollavir_set_timepos(track: &mut Track, timepos: i64) -> u32
     ctrack::dollavir_set_timepos(track, timepos)
 }
 
-// The channel of what is written next; outside 0..15 it is not clamped here. Refuses 4.
 #[unsafe(no_mangle)]
 pub extern "C" fn dollavir_set_channel(track: &mut Track, channel: i32) -> u32
     ensures { TrackLeft (set_channel track.old channel) result track.new }
@@ -130,7 +120,6 @@ pub extern "C" fn dollavir_set_channel(track: &mut Track, channel: i32) -> u32
     ctrack::dollavir_set_channel(track, channel)
 }
 
-// How many steps apart a controller's curve is written. Refuses 4.
 #[unsafe(no_mangle)]
 pub extern "C" fn dollavir_set_cc_on_time_freq(track: &mut Track, freq: i32) -> u32
     ensures { TrackLeft (set_cc_freq track.old freq) result track.new }
@@ -138,7 +127,6 @@ pub extern "C" fn dollavir_set_cc_on_time_freq(track: &mut Track, freq: i32) -> 
     ctrack::dollavir_set_cc_on_time_freq(track, freq)
 }
 
-// The same of a bend's curve. Refuses 4.
 #[unsafe(no_mangle)]
 pub extern "C" fn dollavir_set_pb_on_time_freq(track: &mut Track, freq: i32) -> u32
     ensures { TrackLeft (set_pb_freq track.old freq) result track.new }
@@ -147,7 +135,6 @@ pub extern "C" fn dollavir_set_pb_on_time_freq(track: &mut Track, freq: i32) -> 
 }
 
 // ---- a target's option
-// What is set for a target. Leaves it in `option`, with nothing set where it refuses. Refuses 2, 4.
 #[unsafe(no_mangle)]
 pub extern "C" fn dollavir_get_write_opt(
     track: &Track,
@@ -159,7 +146,6 @@ pub extern "C" fn dollavir_get_write_opt(
     ctrack::dollavir_get_write_opt(track, target, option)
 }
 
-// How many steps later a target's events stand. Refuses 2, 4.
 #[unsafe(no_mangle)]
 pub extern "C" fn dollavir_set_delay(track: &mut Track, target: i32, delay: i32) -> u32
     ensures { TrackLeft (set_delay track.old target delay) result track.new }
@@ -167,7 +153,6 @@ pub extern "C" fn dollavir_set_delay(track: &mut Track, target: i32, delay: i32)
     ctrack::dollavir_set_delay(track, target, delay)
 }
 
-// How far random moves a target's values; 0 or less is off. Refuses 2, 4.
 #[unsafe(no_mangle)]
 pub extern "C" fn dollavir_set_random(track: &mut Track, target: i32, random: i32) -> u32
     ensures { TrackLeft (set_random track.old target random) result track.new }
@@ -175,7 +160,6 @@ pub extern "C" fn dollavir_set_random(track: &mut Track, target: i32, random: i3
     ctrack::dollavir_set_random(track, target, random)
 }
 
-// The range to which a target's values are limited. Refuses 2, 4.
 #[unsafe(no_mangle)]
 pub extern "C" fn dollavir_set_range(track: &mut Track, target: i32, low: i32, high: i32) -> u32
     ensures { TrackLeft (set_range track.old target low high) result track.new }
@@ -183,7 +167,6 @@ pub extern "C" fn dollavir_set_range(track: &mut Track, target: i32, low: i32, h
     ctrack::dollavir_set_range(track, target, low, high)
 }
 
-// A target's values are limited no more. Refuses 2, 4.
 #[unsafe(no_mangle)]
 pub extern "C" fn dollavir_clear_range(track: &mut Track, target: i32) -> u32
     ensures { TrackLeft (clear_range track.old target) result track.new }
@@ -191,7 +174,6 @@ pub extern "C" fn dollavir_clear_range(track: &mut Track, target: i32) -> u32
     ctrack::dollavir_clear_range(track, target)
 }
 
-// Whether a target's lists for notes go round, 0 or 1; it reaches the list that is stored too. Refuses 2, 4.
 #[unsafe(no_mangle)]
 pub extern "C" fn dollavir_set_repeat(track: &mut Track, target: i32, on: u32) -> u32
     ensures { TrackLeft (set_repeat track.old target on) result track.new }
@@ -200,9 +182,6 @@ pub extern "C" fn dollavir_set_repeat(track: &mut Track, target: i32, on: u32) -
 }
 
 // ---- writes at the track's time
-// Writes a curve at the track's time: `list` is triples of a low, a high and a length. Answers the new count and the
-// budget; the target's events within the curve's length are taken out, the new ones stand behind the others. Refuses
-// 1, 2, 3, 4, 7.
 #[unsafe(no_mangle)]
 pub extern "C" fn dollavir_write_on_time(
     track: &Track,
@@ -220,7 +199,6 @@ pub extern "C" fn dollavir_write_on_time(
     ctrack::dollavir_write_on_time(track, target, list, budget, events, count, store)
 }
 
-// `write_on_time` of a controller by its number. Refuses 1, 2, 3, 4, 7.
 #[unsafe(no_mangle)]
 pub extern "C" fn dollavir_write_cc_on_time(
     track: &Track,
@@ -238,7 +216,6 @@ pub extern "C" fn dollavir_write_cc_on_time(
     ctrack::dollavir_write_cc_on_time(track, number, list, budget, events, count, store)
 }
 
-// `write_on_time` of the bend. Refuses 1, 3, 4, 7.
 #[unsafe(no_mangle)]
 pub extern "C" fn dollavir_write_pb_on_time(
     track: &Track,
@@ -256,9 +233,6 @@ pub extern "C" fn dollavir_write_pb_on_time(
     ctrack::dollavir_write_pb_on_time(track, big, list, budget, events, count, store)
 }
 
-// Writes a sine at the track's time, `times` turns of `len` steps from `low` to `high`; `shape` is 0 for a full turn,
-// 1 and 2 for the quarter up and down. Answers and leaves as `write_on_time`; a length of 0 or less changes nothing,
-// times of 0 or less count once. Refuses 1, 2, 4, 7.
 #[unsafe(no_mangle)]
 pub extern "C" fn dollavir_write_sine(
     track: &Track,
@@ -283,7 +257,6 @@ pub extern "C" fn dollavir_write_sine(
 }
 
 // ---- what is reserved for a target
-// Takes out the reservations of a target, of all four kinds. Answers the track. Refuses 1, 2, 4.
 #[unsafe(no_mangle)]
 pub extern "C" fn dollavir_remove_reserve(
     track: &mut Track,
@@ -295,8 +268,6 @@ pub extern "C" fn dollavir_remove_reserve(
     ctrack::dollavir_remove_reserve(track, cycles, target)
 }
 
-// Reserves a list of numbers for a target, one for each note, in place of what is reserved for it. Answers the track.
-// Refuses 1, 2, 3, 4, 6.
 #[unsafe(no_mangle)]
 pub extern "C" fn dollavir_set_on_note(
     track: &mut Track,
@@ -310,8 +281,6 @@ pub extern "C" fn dollavir_set_on_note(
     ctrack::dollavir_set_on_note(track, cycles, target, list)
 }
 
-// Reserves a wave for a target: `list` is triples of a low, a high and a length. Answers the track. Refuses 1, 2, 3,
-// 4, 6.
 #[unsafe(no_mangle)]
 pub extern "C" fn dollavir_set_on_note_wave(
     track: &mut Track,
@@ -326,7 +295,6 @@ pub extern "C" fn dollavir_set_on_note_wave(
     ctrack::dollavir_set_on_note_wave(track, cycles, target, mode, list)
 }
 
-// Reserves a sine for a target, which it must name. Answers the track. Refuses 1, 2, 4, 6.
 #[unsafe(no_mangle)]
 pub extern "C" fn dollavir_set_on_note_sine(
     track: &mut Track,
@@ -340,9 +308,6 @@ pub extern "C" fn dollavir_set_on_note_sine(
     ctrack::dollavir_set_on_note_sine(track, cycles, target, sine)
 }
 
-// Reserves a cycle of `list` for a target, one number every `len` steps from the track's time on; it comes last in
-// the table. A length of 0 or less, or no number, only takes the target's reservations out. Answers the track.
-// Refuses 1, 2, 3, 4, 6.
 #[unsafe(no_mangle)]
 pub extern "C" fn dollavir_set_on_cycle(
     track: &mut Track,
@@ -357,7 +322,6 @@ pub extern "C" fn dollavir_set_on_cycle(
     ctrack::dollavir_set_on_cycle(track, cycles, target, len, list)
 }
 
-// The older calls. `remove_reserve` of a controller. Refuses 1, 2, 4.
 #[unsafe(no_mangle)]
 pub extern "C" fn dollavir_remove_cc_on(track: &mut Track, cycles: &mut [Cycle], number: i32) -> u32
     ensures { Reserved (remove_cc_on track.old (length cycles.old) cycles.old number) result track.new cycles.new }
@@ -365,7 +329,6 @@ pub extern "C" fn dollavir_remove_cc_on(track: &mut Track, cycles: &mut [Cycle],
     ctrack::dollavir_remove_cc_on(track, cycles, number)
 }
 
-// `set_on_note` of a controller. Refuses 1, 2, 3, 4, 6.
 #[unsafe(no_mangle)]
 pub extern "C" fn dollavir_set_cc_on_note(
     track: &mut Track,
@@ -379,7 +342,6 @@ pub extern "C" fn dollavir_set_cc_on_note(
     ctrack::dollavir_set_cc_on_note(track, cycles, number, list)
 }
 
-// `set_on_note_wave` of a controller, the wave used as it is. Refuses 1, 2, 3, 4, 6.
 #[unsafe(no_mangle)]
 pub extern "C" fn dollavir_set_cc_on_note_wave(
     track: &mut Track,
@@ -393,7 +355,6 @@ pub extern "C" fn dollavir_set_cc_on_note_wave(
     ctrack::dollavir_set_cc_on_note_wave(track, cycles, number, list)
 }
 
-// `set_on_note_wave` of a bend by its argument, the wave used as it is. Refuses 1, 3, 4, 6.
 #[unsafe(no_mangle)]
 pub extern "C" fn dollavir_set_pb_on_note_wave(
     track: &mut Track,
@@ -407,7 +368,6 @@ pub extern "C" fn dollavir_set_pb_on_note_wave(
     ctrack::dollavir_set_pb_on_note_wave(track, cycles, big, list)
 }
 
-// `remove_reserve` of both bends. Refuses 1, 4.
 #[unsafe(no_mangle)]
 pub extern "C" fn dollavir_remove_pb_on_note_wave(track: &mut Track, cycles: &mut [Cycle]) -> u32
     ensures { Reserved (remove_pb_on_note_wave track.old (length cycles.old) cycles.old) result track.new cycles.new }
@@ -415,7 +375,6 @@ pub extern "C" fn dollavir_remove_pb_on_note_wave(track: &mut Track, cycles: &mu
     ctrack::dollavir_remove_pb_on_note_wave(track, cycles)
 }
 
-// No list for notes stays reserved for a controller; what is of another kind stays. Refuses 2, 4.
 #[unsafe(no_mangle)]
 pub extern "C" fn dollavir_remove_cc_on_note(track: &mut Track, number: i32) -> u32
     ensures { TrackLeft (remove_cc_on_note track.old number) result track.new }
@@ -423,7 +382,6 @@ pub extern "C" fn dollavir_remove_cc_on_note(track: &mut Track, number: i32) -> 
     ctrack::dollavir_remove_cc_on_note(track, number)
 }
 
-// No wave and no sine stays reserved for a controller; what is of another kind stays. Refuses 2, 4.
 #[unsafe(no_mangle)]
 pub extern "C" fn dollavir_remove_cc_on_note_wave(track: &mut Track, number: i32) -> u32
     ensures { TrackLeft (remove_cc_on_note_wave track.old number) result track.new }
@@ -432,10 +390,6 @@ pub extern "C" fn dollavir_remove_cc_on_note_wave(track: &mut Track, number: i32
 }
 
 // ---- writes at notes and cycles
-// Writes what a track's lists have for a note that starts at `start`: the events stand behind the list's own, and
-// each list that wrote is one further. Answers the count, the budget and the track afterwards. A write that does not
-// fit sets the flag and ends the call; else lists that are used up and do not go round are taken out. Refuses 1, 4,
-// 7; then all is left as it is.
 #[unsafe(no_mangle)]
 pub extern "C" fn dollavir_write_cc_on_note(
     track: &mut Track,
@@ -451,10 +405,6 @@ pub extern "C" fn dollavir_write_cc_on_note(
     ctrack::dollavir_write_cc_on_note(track, start, budget, events, count)
 }
 
-// Writes the waves and then the sines that are reserved for the track's notes, over a note from `start` to the
-// track's time; they stop once the flag is set. Answers the count of events and the budget after them, and leaves the
-// events in the list; the track stays as it is. Refuses 1, 4, 7; then list, count and budget are those that were
-// handed in.
 #[unsafe(no_mangle)]
 pub extern "C" fn dollavir_write_cc_on_note_wave(
     track: &Track,
@@ -471,9 +421,6 @@ pub extern "C" fn dollavir_write_cc_on_note_wave(
     ctrack::dollavir_write_cc_on_note_wave(track, start, budget, events, count, store)
 }
 
-// Makes the writes of the track's cycles that are due up to `until`, as `cycling::write_cc_on_cycle` does, over a
-// cycle table and a budget that are lent: the records are advanced in place. Answers the new count. Refuses 1, 4, 7;
-// then all that was lent is left.
 #[unsafe(no_mangle)]
 pub extern "C" fn dollavir_write_cc_on_cycle(
     track: &Track,
@@ -491,8 +438,6 @@ pub extern "C" fn dollavir_write_cc_on_cycle(
 }
 
 // ---- a controller's value
-// The value of controller `number` on the track's channel at its time: that of the last such event in list order at
-// or before it, or the controller's default. Leaves it in `value`, 0 where it refuses. Refuses 1, 2, 4.
 #[unsafe(no_mangle)]
 pub extern "C" fn dollavir_current_cc_value(
     track: &Track,
@@ -508,8 +453,6 @@ pub extern "C" fn dollavir_current_cc_value(
 }
 
 // ---- the event list
-// Takes out the bends from `start` to `end`, that time included. Answers the new count; the others keep their order,
-// and the places that fall vacant are zeroed. Refuses 1, 4; then the list is left as it is.
 #[unsafe(no_mangle)]
 pub extern "C" fn dollavir_remove_pitch_bend_in_range(
     events: &mut [i64],
@@ -525,8 +468,6 @@ pub extern "C" fn dollavir_remove_pitch_bend_in_range(
     ctrack::dollavir_remove_pitch_bend_in_range(events, count, start, end, store)
 }
 
-// Sorts the list by time; events of one time keep their order. Answers 0, or refuses 1, 4; then the list is left as
-// it is.
 #[unsafe(no_mangle)]
 pub extern "C" fn dollavir_events_sort(events: &mut [i64], count: usize, store: &[u8]) -> u32
     ensures { (result ≡ sort_refusal (length store.now) events.old count) × (events.new ≡ sort_left (length store.now) events.old count) }
@@ -534,9 +475,6 @@ pub extern "C" fn dollavir_events_sort(events: &mut [i64], count: usize, store: 
     ctrack::dollavir_events_sort(events, count, store)
 }
 
-// Puts the list's events at the front of `out`, after each note its end, and leaves their number in `out_count`.
-// Beyond them `out` is left as it is. Refuses 1, 4, 7; then all of `out` is left as it is, and `out_count` is
-// `count`.
 #[unsafe(no_mangle)]
 pub extern "C" fn dollavir_split_note_off(
     events: &[i64],
@@ -552,8 +490,6 @@ pub extern "C" fn dollavir_split_note_off(
     ctrack::dollavir_split_note_off(events, count, out, store, out_count)
 }
 
-// Puts after each note of the list its end, and answers the new count. Refuses 1, 4, 7; then the list is left as it
-// is.
 #[unsafe(no_mangle)]
 pub extern "C" fn dollavir_normalize(events: &mut [i64], count: &mut usize, store: &[u8]) -> u32
     ensures { ListLeft (split_taken (length store.now) events.old count.old events.old)
@@ -563,9 +499,6 @@ pub extern "C" fn dollavir_normalize(events: &mut [i64], count: &mut usize, stor
     ctrack::dollavir_normalize(events, count, store)
 }
 
-// Cuts off what is before `cut`: the events that are kept count their time from it, and after them stand, at time 0,
-// the controllers and the program as they were by the last of each in list order. Answers the new count; the places
-// that fall vacant are zeroed. Refuses 1, 4; then the list is left as it is.
 #[unsafe(no_mangle)]
 pub extern "C" fn dollavir_play_from(
     events: &mut [i64],
@@ -580,11 +513,6 @@ pub extern "C" fn dollavir_play_from(
     ctrack::dollavir_play_from(events, count, cut, store)
 }
 
-// The cut with its bends: those from `cut` on are kept, and what is folded stands first, the bend too. Of each
-// controller, of the program and of the bend the latest event before `cut` counts, whatever the list's order, and of
-// equal times the later in the list; the channel is that of the latest controller or program. A negative value of the
-// latest unsets, but a bend counts whatever its value, on its own channel. Answers the new count; the places that
-// fall vacant are zeroed. Refuses 1, 4; then the list is left as it is.
 #[unsafe(no_mangle)]
 pub extern "C" fn dollavir_full_cut(
     events: &mut [i64],
@@ -600,11 +528,6 @@ pub extern "C" fn dollavir_full_cut(
 }
 
 // ---- a file's track chunk
-// Writes the events as a track chunk of Standard MIDI Files 1.0 at the start of `out`, with full status on every
-// event and the end of track last. Leaves in `bytes` how many bytes the chunk has, 0 where it refuses; what stands in
-// `out` behind them is left. Refuses 1, 4; 10 a list that is not in order, whose first time is below 0 or that has a
-// gap above 268,435,455; 11 a kind that is not written, or a field outside its width; 12 an output that is too short.
-// Then all of `out` is left as it is.
 #[unsafe(no_mangle)]
 pub extern "C" fn dollavir_write_chunk(
     events: &[i64],
@@ -620,12 +543,6 @@ pub extern "C" fn dollavir_write_chunk(
     ctrack::dollavir_write_chunk(events, count, store, out, bytes)
 }
 
-// Reads a track chunk of Standard MIDI Files 1.0 into the list, which then holds the chunk's events in order and
-// nothing else: NoteOn, NoteOff, controllers, programs and bends, with running status; Meta, system exclusive and
-// aftertouch are stepped over, and their times count. A note's end is a NoteOff of velocity 0. Leaves in `count` how
-// many events the list has. Refuses 1; 13 bytes that are no track chunk, or not as many as it says; 14 an event that
-// is cut short or faulty; 15 no end of track, or bytes behind it; 7; 4 an event later than 2^42. Then the list and
-// the count are left as they are.
 #[unsafe(no_mangle)]
 pub extern "C" fn dollavir_read_chunk(chunk: &[u8], events: &mut [i64], count: &mut usize) -> u32
     ensures { ListLeft (read_taken chunk.now events.old count.old)
@@ -636,9 +553,6 @@ pub extern "C" fn dollavir_read_chunk(chunk: &[u8], events: &mut [i64], count: &
 }
 
 // ---- the rehearsal player's profile
-// Leaves in `yes` whether the rehearsal player accepts the list: 1 where its controllers are 1, 7, 10, 11 and 64
-// only, at most one of each at a time, its bends 0 to 16,383, all its events but Meta, SysEx and DirectSMF on one
-// channel, and its times from 0 on and never falling; else 0, as where it refuses. Refuses 1, 4.
 #[unsafe(no_mangle)]
 pub extern "C" fn dollavir_check_profile(
     events: &[i64],
@@ -651,11 +565,6 @@ pub extern "C" fn dollavir_check_profile(
     ctrack::dollavir_check_profile(events, count, store, yes)
 }
 
-// Fits the list to the rehearsal player: sorts it by time, events of one time in their order, and drops controllers
-// but 1, 7, 10, 11 and 64, bends outside 0 to 16,383, and of a controller's events at one time all but the last.
-// Leaves the new count in `count`; the places that fall vacant are zeroed. Refuses 1, 4, then 17 more than one
-// channel (Meta, SysEx and DirectSMF not counted), then 18 a time below 0, each asked of the list handed in; then the
-// list and the count are left as they are.
 #[unsafe(no_mangle)]
 pub extern "C" fn dollavir_fit_profile(events: &mut [i64], count: &mut usize, store: &[u8]) -> u32
     ensures { ListLeft (fit_taken (length store.now) events.old count.old)
@@ -666,8 +575,6 @@ pub extern "C" fn dollavir_fit_profile(events: &mut [i64], count: &mut usize, st
 }
 
 // ---- the track's parameters and layers
-// A note's velocity at the track's time, of the curve or cycle that is reserved, or the default; a curve that is over
-// goes. Leaves it in `value`, 0 where it refuses. Refuses 4.
 #[unsafe(no_mangle)]
 pub extern "C" fn dollavir_calc_v_on_time(track: &mut Track, def: i32, value: &mut i32) -> u32
     ensures { ValueLeft (value_on_time velocity track.old def) result value.new track.new }
@@ -675,7 +582,6 @@ pub extern "C" fn dollavir_calc_v_on_time(track: &mut Track, def: i32, value: &m
     ctrack::dollavir_calc_v_on_time(track, def, value)
 }
 
-// The same of a note's timing. Leaves it in `value`, 0 where it refuses. Refuses 4.
 #[unsafe(no_mangle)]
 pub extern "C" fn dollavir_calc_t_on_time(track: &mut Track, def: i32, value: &mut i32) -> u32
     ensures { ValueLeft (value_on_time timing track.old def) result value.new track.new }
@@ -683,7 +589,6 @@ pub extern "C" fn dollavir_calc_t_on_time(track: &mut Track, def: i32, value: &m
     ctrack::dollavir_calc_t_on_time(track, def, value)
 }
 
-// The same of a note's gate. Leaves it in `value`, 0 where it refuses. Refuses 4.
 #[unsafe(no_mangle)]
 pub extern "C" fn dollavir_calc_qlen_on_time(track: &mut Track, def: i32, value: &mut i32) -> u32
     ensures { ValueLeft (value_on_time gate track.old def) result value.new track.new }
@@ -691,7 +596,6 @@ pub extern "C" fn dollavir_calc_qlen_on_time(track: &mut Track, def: i32, value:
     ctrack::dollavir_calc_qlen_on_time(track, def, value)
 }
 
-// The same of a note's octave. Leaves it in `value`, 0 where it refuses. Refuses 4.
 #[unsafe(no_mangle)]
 pub extern "C" fn dollavir_calc_o_on_time(track: &mut Track, def: i32, value: &mut i32) -> u32
     ensures { ValueLeft (value_on_time octave track.old def) result value.new track.new }
@@ -699,7 +603,6 @@ pub extern "C" fn dollavir_calc_o_on_time(track: &mut Track, def: i32, value: &m
     ctrack::dollavir_calc_o_on_time(track, def, value)
 }
 
-// The same of a note's length. Leaves it in `value`, 0 where it refuses. Refuses 4.
 #[unsafe(no_mangle)]
 pub extern "C" fn dollavir_calc_l_on_time(track: &mut Track, def: i32, value: &mut i32) -> u32
     ensures { ValueLeft (value_on_time span track.old def) result value.new track.new }
@@ -707,8 +610,6 @@ pub extern "C" fn dollavir_calc_l_on_time(track: &mut Track, def: i32, value: &m
     ctrack::dollavir_calc_l_on_time(track, def, value)
 }
 
-// A note's velocity, the next of the list that is reserved, or the default; a list that is spent goes. While the list
-// is there, the value is the track's velocity too. Leaves it in `value`, 0 where it refuses. Refuses 4.
 #[unsafe(no_mangle)]
 pub extern "C" fn dollavir_calc_v_on_note(track: &mut Track, def: i32, value: &mut i32) -> u32
     ensures { ValueLeft (value_on_note velocity track.old def) result value.new track.new }
@@ -716,7 +617,6 @@ pub extern "C" fn dollavir_calc_v_on_note(track: &mut Track, def: i32, value: &m
     ctrack::dollavir_calc_v_on_note(track, def, value)
 }
 
-// The same of a note's timing. Leaves it in `value`, 0 where it refuses. Refuses 4.
 #[unsafe(no_mangle)]
 pub extern "C" fn dollavir_calc_t_on_note(track: &mut Track, def: i32, value: &mut i32) -> u32
     ensures { ValueLeft (value_on_note timing track.old def) result value.new track.new }
@@ -724,8 +624,6 @@ pub extern "C" fn dollavir_calc_t_on_note(track: &mut Track, def: i32, value: &m
     ctrack::dollavir_calc_t_on_note(track, def, value)
 }
 
-// The same of a note's gate, which is no longer one in steps then. Leaves it in `value`, 0 where it refuses. Refuses
-// 4.
 #[unsafe(no_mangle)]
 pub extern "C" fn dollavir_calc_qlen_on_note(track: &mut Track, def: i32, value: &mut i32) -> u32
     ensures { ValueLeft (value_on_note gate track.old def) result value.new track.new }
@@ -733,7 +631,6 @@ pub extern "C" fn dollavir_calc_qlen_on_note(track: &mut Track, def: i32, value:
     ctrack::dollavir_calc_qlen_on_note(track, def, value)
 }
 
-// The same of a note's octave. Leaves it in `value`, 0 where it refuses. Refuses 4.
 #[unsafe(no_mangle)]
 pub extern "C" fn dollavir_calc_o_on_note(track: &mut Track, def: i32, value: &mut i32) -> u32
     ensures { ValueLeft (value_on_note octave track.old def) result value.new track.new }
@@ -741,7 +638,6 @@ pub extern "C" fn dollavir_calc_o_on_note(track: &mut Track, def: i32, value: &m
     ctrack::dollavir_calc_o_on_note(track, def, value)
 }
 
-// The same of a note's length, which the track does not keep. Leaves it in `value`, 0 where it refuses. Refuses 4.
 #[unsafe(no_mangle)]
 pub extern "C" fn dollavir_calc_l_on_note(track: &mut Track, def: i32, value: &mut i32) -> u32
     ensures { ValueLeft (value_on_note span track.old def) result value.new track.new }
@@ -749,7 +645,6 @@ pub extern "C" fn dollavir_calc_l_on_note(track: &mut Track, def: i32, value: &m
     ctrack::dollavir_calc_l_on_note(track, def, value)
 }
 
-// A layer's value; nothing stays reserved for it. Refuses 4, 5.
 #[unsafe(no_mangle)]
 pub extern "C" fn dollavir_set_v_sub(track: &mut Track, index: usize, velocity: i32) -> u32
     ensures { TrackLeft (on_layers track.old (set_v_sub track.old.layers index velocity)) result track.new }
@@ -757,7 +652,6 @@ pub extern "C" fn dollavir_set_v_sub(track: &mut Track, index: usize, velocity: 
     ctrack::dollavir_set_v_sub(track, index, velocity)
 }
 
-// A layer's random width. Refuses 4, 5.
 #[unsafe(no_mangle)]
 pub extern "C" fn dollavir_set_v_sub_random(track: &mut Track, index: usize, random: i32) -> u32
     ensures { TrackLeft (on_layers track.old (set_v_sub_random track.old.layers index random)) result track.new }
@@ -765,7 +659,6 @@ pub extern "C" fn dollavir_set_v_sub_random(track: &mut Track, index: usize, ran
     ctrack::dollavir_set_v_sub_random(track, index, random)
 }
 
-// Reserves a curve for a layer, from the track's time and the velocity parameter's delay on. Refuses 3, 4, 5.
 #[unsafe(no_mangle)]
 pub extern "C" fn dollavir_set_v_sub_on_time(track: &mut Track, index: usize, values: &[i32]) -> u32
     ensures { TrackLeft (on_layers track.old (set_v_sub_on_time track.old.layers index track.old.timepos track.old.v.delay values.now))
@@ -774,7 +667,6 @@ pub extern "C" fn dollavir_set_v_sub_on_time(track: &mut Track, index: usize, va
     ctrack::dollavir_set_v_sub_on_time(track, index, values)
 }
 
-// Reserves a cycle for a layer, its length and then its values; nothing, where there is no value. Refuses 3, 4, 5.
 #[unsafe(no_mangle)]
 pub extern "C" fn dollavir_set_v_sub_on_cycle(track: &mut Track, index: usize, args: &[i32]) -> u32
     ensures { TrackLeft (on_layers track.old (set_v_sub_on_cycle track.old.layers index track.old.timepos track.old.v.delay args.now))
@@ -783,8 +675,6 @@ pub extern "C" fn dollavir_set_v_sub_on_cycle(track: &mut Track, index: usize, a
     ctrack::dollavir_set_v_sub_on_cycle(track, index, args)
 }
 
-// Reserves a value of a layer for each of the next notes, round and round where the velocity parameter's repeat
-// stands. Refuses 3, 4, 5.
 #[unsafe(no_mangle)]
 pub extern "C" fn dollavir_set_v_sub_on_note(track: &mut Track, index: usize, values: &[i32]) -> u32
     ensures { TrackLeft (on_layers track.old (set_v_sub_on_note track.old.layers index track.old.v.repeat values.now))
@@ -793,8 +683,6 @@ pub extern "C" fn dollavir_set_v_sub_on_note(track: &mut Track, index: usize, va
     ctrack::dollavir_set_v_sub_on_note(track, index, values)
 }
 
-// A note's velocity at the track's time: the given one and what every layer adds to it. The layers come back
-// advanced. Leaves it in `value`, 0 where it refuses. Refuses 4.
 #[unsafe(no_mangle)]
 pub extern "C" fn dollavir_apply_v_sub(track: &mut Track, velocity: i32, value: &mut i64) -> u32
     ensures { VelocityLeft (summed_up track.old (apply_v_sub track.old.layers track.old.timepos velocity))
@@ -803,8 +691,6 @@ pub extern "C" fn dollavir_apply_v_sub(track: &mut Track, velocity: i32, value: 
     ctrack::dollavir_apply_v_sub(track, velocity, value)
 }
 
-// The setters of a parameter, `which` by its number; any other number refuses 4. Reserves a curve, low, high and
-// length by threes, from the track's time and the parameter's delay on. Refuses 3, 4.
 #[unsafe(no_mangle)]
 pub extern "C" fn dollavir_set_param_on_time(track: &mut Track, which: u32, values: &[i32]) -> u32
     ensures { TrackLeft (on_param which track.old (set_on_time (param_of which track.old) track.old.timepos values.now))
@@ -813,7 +699,6 @@ pub extern "C" fn dollavir_set_param_on_time(track: &mut Track, which: u32, valu
     ctrack::dollavir_set_param_on_time(track, which, values)
 }
 
-// Reserves a cycle, its length and then its values, from there on; nothing, where there is no value. Refuses 3, 4.
 #[unsafe(no_mangle)]
 pub extern "C" fn dollavir_set_param_on_cycle(track: &mut Track, which: u32, args: &[i32]) -> u32
     ensures { TrackLeft (on_param which track.old (params_set_on_cycle (param_of which track.old) track.old.timepos args.now))
@@ -822,7 +707,6 @@ pub extern "C" fn dollavir_set_param_on_cycle(track: &mut Track, which: u32, arg
     ctrack::dollavir_set_param_on_cycle(track, which, args)
 }
 
-// Reserves a value for each of the next notes, round and round where repeat stands. Refuses 3, 4.
 #[unsafe(no_mangle)]
 pub extern "C" fn dollavir_set_param_on_note(track: &mut Track, which: u32, values: &[i32]) -> u32
     ensures { TrackLeft (on_param which track.old (params_set_on_note (param_of which track.old) values.now)) result track.new }
@@ -830,7 +714,6 @@ pub extern "C" fn dollavir_set_param_on_note(track: &mut Track, which: u32, valu
     ctrack::dollavir_set_param_on_note(track, which, values)
 }
 
-// Nothing stays reserved. Refuses 4.
 #[unsafe(no_mangle)]
 pub extern "C" fn dollavir_clear_param_reserve(track: &mut Track, which: u32) -> u32
     ensures { TrackLeft (on_param which track.old (clear_reserve (param_of which track.old))) result track.new }
@@ -838,7 +721,6 @@ pub extern "C" fn dollavir_clear_param_reserve(track: &mut Track, which: u32) ->
     ctrack::dollavir_clear_param_reserve(track, which)
 }
 
-// The random width of a value. Refuses 4.
 #[unsafe(no_mangle)]
 pub extern "C" fn dollavir_set_param_random(track: &mut Track, which: u32, random: i32) -> u32
     ensures { TrackLeft (on_param which track.old (params_set_random (param_of which track.old) random)) result track.new }
@@ -846,7 +728,6 @@ pub extern "C" fn dollavir_set_param_random(track: &mut Track, which: u32, rando
     ctrack::dollavir_set_param_random(track, which, random)
 }
 
-// The range of a value. Refuses 4.
 #[unsafe(no_mangle)]
 pub extern "C" fn dollavir_set_param_range(
     track: &mut Track,
@@ -859,7 +740,6 @@ pub extern "C" fn dollavir_set_param_range(
     ctrack::dollavir_set_param_range(track, which, low, high)
 }
 
-// No range. Refuses 4.
 #[unsafe(no_mangle)]
 pub extern "C" fn dollavir_clear_param_range(track: &mut Track, which: u32) -> u32
     ensures { TrackLeft (on_param which track.old (params_clear_range (param_of which track.old))) result track.new }
@@ -867,7 +747,6 @@ pub extern "C" fn dollavir_clear_param_range(track: &mut Track, which: u32) -> u
     ctrack::dollavir_clear_param_range(track, which)
 }
 
-// The delay of what is reserved from now on. Refuses 4.
 #[unsafe(no_mangle)]
 pub extern "C" fn dollavir_set_param_delay(track: &mut Track, which: u32, delay: i32) -> u32
     ensures { TrackLeft (on_param which track.old (params_set_delay (param_of which track.old) delay)) result track.new }
@@ -875,7 +754,6 @@ pub extern "C" fn dollavir_set_param_delay(track: &mut Track, which: u32, delay:
     ctrack::dollavir_set_param_delay(track, which, delay)
 }
 
-// The maximum of a value. Refuses 4.
 #[unsafe(no_mangle)]
 pub extern "C" fn dollavir_set_param_max(track: &mut Track, which: u32, max: i32) -> u32
     ensures { TrackLeft (on_param which track.old (set_max (param_of which track.old) max)) result track.new }
@@ -883,7 +761,6 @@ pub extern "C" fn dollavir_set_param_max(track: &mut Track, which: u32, max: i32
     ctrack::dollavir_set_param_max(track, which, max)
 }
 
-// No maximum. Refuses 4.
 #[unsafe(no_mangle)]
 pub extern "C" fn dollavir_clear_param_max(track: &mut Track, which: u32) -> u32
     ensures { TrackLeft (on_param which track.old (clear_max (param_of which track.old))) result track.new }
@@ -891,7 +768,6 @@ pub extern "C" fn dollavir_clear_param_max(track: &mut Track, which: u32) -> u32
     ctrack::dollavir_clear_param_max(track, which)
 }
 
-// Whether a list that is reserved from now on goes round: 0 or 1. Refuses 4.
 #[unsafe(no_mangle)]
 pub extern "C" fn dollavir_set_param_repeat(track: &mut Track, which: u32, repeat: u32) -> u32
     ensures { TrackLeft (on_param which track.old (params_set_repeat (param_of which track.old) repeat)) result track.new }
@@ -900,7 +776,6 @@ pub extern "C" fn dollavir_set_param_repeat(track: &mut Track, which: u32, repea
 }
 
 // ---- events
-// A note of a length and a velocity. Refuses 4.
 #[unsafe(no_mangle)]
 pub extern "C" fn dollavir_event_note(
     time: i64,
@@ -914,7 +789,6 @@ pub extern "C" fn dollavir_event_note(
     ctrack::dollavir_event_note(time, channel, number, len, vel)
 }
 
-// A program. Refuses 4.
 #[unsafe(no_mangle)]
 pub extern "C" fn dollavir_event_voice(time: i64, channel: i64, value: i64) -> Made
     ensures { result ≡ made 0 (voice_event time channel value) }
@@ -922,7 +796,6 @@ pub extern "C" fn dollavir_event_voice(time: i64, channel: i64, value: i64) -> M
     ctrack::dollavir_event_voice(time, channel, value)
 }
 
-// A controller's value. Refuses 2 a number that is no controller's, then 4.
 #[unsafe(no_mangle)]
 pub extern "C" fn dollavir_event_cc(time: i64, channel: i64, number: i64, value: i64) -> Made
     ensures { result ≡ made_cc time channel number value }
@@ -930,7 +803,6 @@ pub extern "C" fn dollavir_event_cc(time: i64, channel: i64, number: i64, value:
     ctrack::dollavir_event_cc(time, channel, number, value)
 }
 
-// A bend. Refuses 4.
 #[unsafe(no_mangle)]
 pub extern "C" fn dollavir_event_pitch_bend(time: i64, channel: i64, value: i64) -> Made
     ensures { result ≡ made 0 (pitch_bend_event time channel value) }
@@ -938,7 +810,6 @@ pub extern "C" fn dollavir_event_pitch_bend(time: i64, channel: i64, value: i64)
     ctrack::dollavir_event_pitch_bend(time, channel, value)
 }
 
-// A bend's range. Refuses 4.
 #[unsafe(no_mangle)]
 pub extern "C" fn dollavir_event_pitch_bend_range(time: i64, channel: i64, value: i64) -> Made
     ensures { result ≡ made 0 (pitch_bend_range_event time channel value) }
@@ -946,7 +817,6 @@ pub extern "C" fn dollavir_event_pitch_bend_range(time: i64, channel: i64, value
     ctrack::dollavir_event_pitch_bend_range(time, channel, value)
 }
 
-// A meta event, its data the `len` bytes of `store` from `offset` on. Refuses 4.
 #[unsafe(no_mangle)]
 pub extern "C" fn dollavir_event_meta(
     time: i64,
@@ -962,7 +832,6 @@ pub extern "C" fn dollavir_event_meta(
     ctrack::dollavir_event_meta(time, v1, v2, v3, offset, len, store)
 }
 
-// Bytes of `store` that are written as they stand. Refuses 4.
 #[unsafe(no_mangle)]
 pub extern "C" fn dollavir_event_direct_smf(time: i64, offset: i64, len: i64, store: &[u8]) -> Made
     ensures { result ≡ made (length store.now) (direct_smf_event time offset len) }
@@ -970,7 +839,6 @@ pub extern "C" fn dollavir_event_direct_smf(time: i64, offset: i64, len: i64, st
     ctrack::dollavir_event_direct_smf(time, offset, len, store)
 }
 
-// A system exclusive message of bytes of `store`. Refuses 4.
 #[unsafe(no_mangle)]
 pub extern "C" fn dollavir_event_sysex_raw(time: i64, offset: i64, len: i64, store: &[u8]) -> Made
     ensures { result ≡ made (length store.now) (sysex_event time offset len) }
@@ -978,7 +846,6 @@ pub extern "C" fn dollavir_event_sysex_raw(time: i64, offset: i64, len: i64, sto
     ctrack::dollavir_event_sysex_raw(time, offset, len, store)
 }
 
-// The bytes that an event counts in the budget. Refuses 4 an event that may not be stored beside `store`.
 #[unsafe(no_mangle)]
 pub extern "C" fn dollavir_event_bytes(event: &Event, store: &[u8], bytes: &mut usize) -> u32
     ensures { SizeTold (size_of (length store.now) event.now) result bytes.new }
@@ -987,7 +854,6 @@ pub extern "C" fn dollavir_event_bytes(event: &Event, store: &[u8], bytes: &mut 
 }
 
 // ---- a note parameter of its own
-// Nothing reserved, no option set.
 #[unsafe(no_mangle)]
 pub extern "C" fn dollavir_param_new() -> NoteParam
     ensures { result ≡ fresh }
@@ -995,7 +861,6 @@ pub extern "C" fn dollavir_param_new() -> NoteParam
     ctrack::dollavir_param_new()
 }
 
-// Nothing stays reserved. Refuses 4.
 #[unsafe(no_mangle)]
 pub extern "C" fn dollavir_param_clear_reserve(param: &mut NoteParam) -> u32
     ensures { ParamLeft (clear_reserve param.old) result param.new }
@@ -1003,7 +868,6 @@ pub extern "C" fn dollavir_param_clear_reserve(param: &mut NoteParam) -> u32
     ctrack::dollavir_param_clear_reserve(param)
 }
 
-// 1 where something is reserved, else 0. Leaves it in `value`, 0 where it refuses. Refuses 4.
 #[unsafe(no_mangle)]
 pub extern "C" fn dollavir_param_has_reserve(param: &NoteParam, value: &mut i32) -> u32
     ensures { ParamTold (has_reserve param.now) result value.new }
@@ -1011,7 +875,6 @@ pub extern "C" fn dollavir_param_has_reserve(param: &NoteParam, value: &mut i32)
     ctrack::dollavir_param_has_reserve(param, value)
 }
 
-// Reserves a curve, low, high and length by threes, from `timepos` and the delay on. Refuses 3, 4.
 #[unsafe(no_mangle)]
 pub extern "C" fn dollavir_param_set_on_time(
     param: &mut NoteParam,
@@ -1023,8 +886,6 @@ pub extern "C" fn dollavir_param_set_on_time(
     ctrack::dollavir_param_set_on_time(param, timepos, values)
 }
 
-// Reserves a cycle, its length and then its values, from `timepos` and the delay on; nothing, where there is no
-// value. Refuses 3, 4.
 #[unsafe(no_mangle)]
 pub extern "C" fn dollavir_param_set_on_cycle(
     param: &mut NoteParam,
@@ -1036,7 +897,6 @@ pub extern "C" fn dollavir_param_set_on_cycle(
     ctrack::dollavir_param_set_on_cycle(param, timepos, args)
 }
 
-// Reserves a value for each of the next notes, round and round where repeat stands. Refuses 3, 4.
 #[unsafe(no_mangle)]
 pub extern "C" fn dollavir_param_set_on_note(param: &mut NoteParam, values: &[i32]) -> u32
     ensures { ParamLeft (params_set_on_note param.old values.now) result param.new }
@@ -1044,8 +904,6 @@ pub extern "C" fn dollavir_param_set_on_note(param: &mut NoteParam, values: &[i3
     ctrack::dollavir_param_set_on_note(param, values)
 }
 
-// The value of the reserved curve or cycle at `timepos`, or the default; a curve that is over goes. Leaves it in
-// `value`, 0 where it refuses. Refuses 4.
 #[unsafe(no_mangle)]
 pub extern "C" fn dollavir_param_calc_on_time(
     param: &mut NoteParam,
@@ -1058,8 +916,6 @@ pub extern "C" fn dollavir_param_calc_on_time(
     ctrack::dollavir_param_calc_on_time(param, timepos, def, value)
 }
 
-// The next value of the reserved list, or the default; a list that is spent goes. Leaves it in `value`, 0 where it
-// refuses. Refuses 4.
 #[unsafe(no_mangle)]
 pub extern "C" fn dollavir_param_calc_on_note(
     param: &mut NoteParam,
@@ -1071,8 +927,6 @@ pub extern "C" fn dollavir_param_calc_on_note(
     ctrack::dollavir_param_calc_on_note(param, def, value)
 }
 
-// A value limited by the range and then by the maximum, where there is one. Leaves it in `limited`, 0 where it
-// refuses. Refuses 4.
 #[unsafe(no_mangle)]
 pub extern "C" fn dollavir_param_apply_limit(
     param: &NoteParam,
@@ -1084,7 +938,6 @@ pub extern "C" fn dollavir_param_apply_limit(
     ctrack::dollavir_param_apply_limit(param, value, limited)
 }
 
-// The maximum, or the default where there is none. Leaves it in `value`, 0 where it refuses. Refuses 4.
 #[unsafe(no_mangle)]
 pub extern "C" fn dollavir_param_max_or(param: &NoteParam, def: i32, value: &mut i32) -> u32
     ensures { ParamTold (maximum_or param.now def) result value.new }
@@ -1092,7 +945,6 @@ pub extern "C" fn dollavir_param_max_or(param: &NoteParam, def: i32, value: &mut
     ctrack::dollavir_param_max_or(param, def, value)
 }
 
-// The random width of a value. Refuses 4.
 #[unsafe(no_mangle)]
 pub extern "C" fn dollavir_param_set_random(param: &mut NoteParam, random: i32) -> u32
     ensures { ParamLeft (params_set_random param.old random) result param.new }
@@ -1100,7 +952,6 @@ pub extern "C" fn dollavir_param_set_random(param: &mut NoteParam, random: i32) 
     ctrack::dollavir_param_set_random(param, random)
 }
 
-// The range of a value. Refuses 4.
 #[unsafe(no_mangle)]
 pub extern "C" fn dollavir_param_set_range(param: &mut NoteParam, low: i32, high: i32) -> u32
     ensures { ParamLeft (params_set_range param.old low high) result param.new }
@@ -1108,7 +959,6 @@ pub extern "C" fn dollavir_param_set_range(param: &mut NoteParam, low: i32, high
     ctrack::dollavir_param_set_range(param, low, high)
 }
 
-// No range. Refuses 4.
 #[unsafe(no_mangle)]
 pub extern "C" fn dollavir_param_clear_range(param: &mut NoteParam) -> u32
     ensures { ParamLeft (params_clear_range param.old) result param.new }
@@ -1116,7 +966,6 @@ pub extern "C" fn dollavir_param_clear_range(param: &mut NoteParam) -> u32
     ctrack::dollavir_param_clear_range(param)
 }
 
-// The delay of what is reserved from now on. Refuses 4.
 #[unsafe(no_mangle)]
 pub extern "C" fn dollavir_param_set_delay(param: &mut NoteParam, delay: i32) -> u32
     ensures { ParamLeft (params_set_delay param.old delay) result param.new }
@@ -1124,7 +973,6 @@ pub extern "C" fn dollavir_param_set_delay(param: &mut NoteParam, delay: i32) ->
     ctrack::dollavir_param_set_delay(param, delay)
 }
 
-// The maximum of a value. Refuses 4.
 #[unsafe(no_mangle)]
 pub extern "C" fn dollavir_param_set_max(param: &mut NoteParam, max: i32) -> u32
     ensures { ParamLeft (set_max param.old max) result param.new }
@@ -1132,7 +980,6 @@ pub extern "C" fn dollavir_param_set_max(param: &mut NoteParam, max: i32) -> u32
     ctrack::dollavir_param_set_max(param, max)
 }
 
-// No maximum. Refuses 4.
 #[unsafe(no_mangle)]
 pub extern "C" fn dollavir_param_clear_max(param: &mut NoteParam) -> u32
     ensures { ParamLeft (clear_max param.old) result param.new }
@@ -1140,7 +987,6 @@ pub extern "C" fn dollavir_param_clear_max(param: &mut NoteParam) -> u32
     ctrack::dollavir_param_clear_max(param)
 }
 
-// Whether a list that is reserved from now on goes round: 0 or 1. Refuses 4.
 #[unsafe(no_mangle)]
 pub extern "C" fn dollavir_param_set_repeat(param: &mut NoteParam, repeat: u32) -> u32
     ensures { ParamLeft (params_set_repeat param.old repeat) result param.new }
@@ -1149,7 +995,6 @@ pub extern "C" fn dollavir_param_set_repeat(param: &mut NoteParam, repeat: u32) 
 }
 
 // ---- velocity layers of their own
-// One layer, with nothing set.
 #[unsafe(no_mangle)]
 pub extern "C" fn dollavir_layers_new() -> Layers
     ensures { result ≡ one_layer }
@@ -1157,7 +1002,6 @@ pub extern "C" fn dollavir_layers_new() -> Layers
     ctrack::dollavir_layers_new()
 }
 
-// A layer's value; nothing stays reserved for it. Refuses 4, 5.
 #[unsafe(no_mangle)]
 pub extern "C" fn dollavir_layers_set_v_sub(layers: &mut Layers, index: usize, velocity: i32) -> u32
     ensures { LayersLeft (set_v_sub layers.old index velocity) result layers.new }
@@ -1165,7 +1009,6 @@ pub extern "C" fn dollavir_layers_set_v_sub(layers: &mut Layers, index: usize, v
     ctrack::dollavir_layers_set_v_sub(layers, index, velocity)
 }
 
-// A layer's random width. Refuses 4, 5.
 #[unsafe(no_mangle)]
 pub extern "C" fn dollavir_layers_set_v_sub_random(
     layers: &mut Layers,
@@ -1177,7 +1020,6 @@ pub extern "C" fn dollavir_layers_set_v_sub_random(
     ctrack::dollavir_layers_set_v_sub_random(layers, index, random)
 }
 
-// Reserves a curve for a layer, from `timepos` and the velocity parameter's delay on. Refuses 3, 4, 5.
 #[unsafe(no_mangle)]
 pub extern "C" fn dollavir_layers_set_v_sub_on_time(
     layers: &mut Layers,
@@ -1191,8 +1033,6 @@ pub extern "C" fn dollavir_layers_set_v_sub_on_time(
     ctrack::dollavir_layers_set_v_sub_on_time(layers, index, timepos, delay, values)
 }
 
-// Reserves a cycle for a layer, its length and then its values, from `timepos` and the velocity parameter's delay on;
-// nothing, where there is no value. Refuses 3, 4, 5.
 #[unsafe(no_mangle)]
 pub extern "C" fn dollavir_layers_set_v_sub_on_cycle(
     layers: &mut Layers,
@@ -1206,8 +1046,6 @@ pub extern "C" fn dollavir_layers_set_v_sub_on_cycle(
     ctrack::dollavir_layers_set_v_sub_on_cycle(layers, index, timepos, delay, args)
 }
 
-// Reserves a value of a layer for each of the next notes, round and round where the velocity parameter's repeat
-// stands. Refuses 3, 4, 5.
 #[unsafe(no_mangle)]
 pub extern "C" fn dollavir_layers_set_v_sub_on_note(
     layers: &mut Layers,
@@ -1220,8 +1058,6 @@ pub extern "C" fn dollavir_layers_set_v_sub_on_note(
     ctrack::dollavir_layers_set_v_sub_on_note(layers, index, repeat, values)
 }
 
-// A note's velocity at `timepos`: the given one and what every layer adds to it. The layers come back advanced.
-// Leaves it in `value`, 0 where it refuses. Refuses 4.
 #[unsafe(no_mangle)]
 pub extern "C" fn dollavir_layers_apply_v_sub(
     layers: &mut Layers,
@@ -1235,8 +1071,6 @@ pub extern "C" fn dollavir_layers_apply_v_sub(
 }
 
 // ---- a cycle over time of its own
-// The value of a cycle at `timepos`, and in `found` whether it has one: none before the start, and none of a cycle
-// without values or with a length of 0 or less. Leaves it in `value`, 0 where it refuses. Refuses 4.
 #[unsafe(no_mangle)]
 pub extern "C" fn dollavir_cycle_time_calc(
     cycle: &OnCycleTime,
@@ -1250,8 +1084,6 @@ pub extern "C" fn dollavir_cycle_time_calc(
 }
 
 // ---- the kind of a sine
-// The kind of a sine that a number names, as `write_sine` takes it: 1 and 2 the quarters up and down, any other number the full
-// turn, which is 0. Refuses nothing.
 #[unsafe(no_mangle)]
 pub extern "C" fn dollavir_sine_type(v: i32) -> u32
     ensures { result ≡ number_of (sine_type v) }

@@ -2,7 +2,7 @@
 -- `index_at`), and it is due exactly where the Rust's own test holds at its time (`due-yes`, `due-no`).
 use mathlib.Core.Path.{◌≡◌, refl, sym, ap, ◌∙◌}
 use mathlib.Core.Bool.{Bool, true, false}
-use Prim.Native.Nat.{ℕ, zero, suc, ◌+◌, ◌-◌, ◌*◌, ◌%◌, ◌<◌}
+use Prim.Native.Nat.{ℕ, zero, suc, ◌+◌, ◌*◌, ◌%◌, ◌<◌}
 use native.Mathlib.Nat.{zero-mul, suc-mul, mod-eq_of_lt, mod-add-mod, mod-lt}
 use native.Mathlib.Omega.{arith}
 use lib.Dec.{T}

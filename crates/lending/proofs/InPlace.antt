@@ -14,7 +14,6 @@ use lib.ListN.{length, set, get_or, take, drop, length-append, length-drop}
 use lib.Seq.{drop-cons, take-suc-set, length-take-le}
 use Rattle.laws.specs.Lists.{counted, put_first}
 use Rattle.laws.specs.Rows.{flat}
-use Rattle.laws.proofs.Ranges.{left}
 use Rattle.laws.proofs.Rows.{length-flat}
 use Rattle.laws.proofs.Firsts.{length-put_first}
 use Rattle.numbers.specs.Limits.{places}

@@ -70,7 +70,6 @@ pub enum Max {
 }
 
 // Whether the numbers of a parameter's options are in their ranges; what is absent is not asked.
-#[tactic(auto, unfolding(crate::specs::Param::ok_limits))]
 fn limits_ok(param: NoteParam) -> bool
     ensures { result ≡ ok_limits param }
 {
@@ -201,7 +200,7 @@ impl NoteParam {
     }
 
     // Reserves a curve, low, high and length by threes, from `timepos` and the delay on. Refuses 3, 4.
-    #[tactic(auto, using(crate::proofs::Laid::laid_triples), unfolding(crate::specs::Calls::answered, crate::specs::Param::ok_param))]
+    #[tactic(auto, unfolding(crate::specs::Calls::answered, crate::specs::Param::ok_param))]
     pub fn set_on_time(mut self, timepos: i64, values: &[i32]) -> ParamAnswer
         ensures { result ≡ set_on_time self timepos values.now }
     {
@@ -232,7 +231,7 @@ impl NoteParam {
 
     // Reserves a cycle, its length and then its values, from `timepos` and the delay on; nothing, where there is no value.
     // Refuses 3, 4.
-    #[tactic(auto, using(crate::proofs::Laid::laid_rest), unfolding(crate::specs::Calls::answered, crate::specs::Param::ok_param, reserved::specs::Setting::cycle_args))]
+    #[tactic(auto, unfolding(crate::specs::Calls::answered, crate::specs::Param::ok_param, reserved::specs::Setting::cycle_args))]
     pub fn set_on_cycle(mut self, timepos: i64, args: &[i32]) -> ParamAnswer
         ensures { result ≡ set_on_cycle self timepos args.now }
     {

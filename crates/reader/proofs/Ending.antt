@@ -12,7 +12,7 @@ use lib.Seq.{drop-append_seam}
 use Rattle.eventlist.specs.declared.Taken.{Taken}
 use Rattle.quantities.specs.Quantities.{met, quantity_in}
 use Rattle.chunks.specs.Writing.{head_bytes}
-use Rattle.chunks.specs.Reader.{seen, read_from}
+use Rattle.chunks.specs.Reader.{read_from}
 use Rattle.reader.specs.Reading.{kept_in, read_of}
 use Rattle.reader.specs.Rereading.{WholeEvents, none, more, EndOfTrack, ReadIn}
 use Rattle.reader.proofs.Fronts.{Said, Stands, faulty, event, closing, stands, said_here}

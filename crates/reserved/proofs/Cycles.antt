@@ -7,7 +7,7 @@ use native.Mathlib.Omega.{arith}
 use borrow.Author.Tests.{eqb-false}
 use lib.Dec.{eqb}
 use lib.IntN.{ℤ, pos}
-use lib.ListN.{length, get_or}
+use lib.ListN.{get_or}
 use Rattle.laws.specs.Integers.{cut}
 use Rattle.laws.proofs.Ranges.{left, right}
 use Rattle.numbers.specs.Ranges.{is_stored_time, is_length}

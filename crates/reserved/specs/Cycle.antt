@@ -1,5 +1,5 @@
 -- 01, item 4 and "Values per note": the value of a cycle at a time, and what the answer's cases stand for.
-use Rattle.std.specs.Prelude.{Bool, cond, ◌&&◌, ◌||◌, List, [], ◌∷◌, ℕ, ◌/◌, ◌%◌, eqb, ℤ, pos, ◌-ℤ◌, get_or}
+use Rattle.std.specs.Prelude.{Bool, cond, ◌&&◌, ◌||◌, List, [], ◌∷◌, ◌/◌, ◌%◌, eqb, ℤ, pos, ◌-ℤ◌, get_or}
 use Rattle.std.specs.Int.Signed.{lt_z}
 use Rattle.laws.specs.Integers.{cut}
 use Rattle.laws.specs.Answers.{Said}

@@ -127,6 +127,7 @@ fn play_ok(
     a & b & c & d & e & f & g & h & i & j
 }
 
+#[tactic(auto, unfolding(crate::specs::Tests::ok_params))]
 fn params_ok(v: NoteParam, q: NoteParam, t: NoteParam, o: NoteParam, l: NoteParam) -> bool
     ensures { result ≡ ok_params v q t o l }
 {
@@ -246,6 +247,7 @@ fn clamped(channel: i32) -> i32
 }
 
 // A track at time 0 with nothing set.
+#[tactic(auto, unfolding(crate::specs::Track::new_track))]
 fn blank(timebase: i32, channel: i32) -> Track
     ensures { result ≡ new_track timebase channel }
 {

@@ -1,8 +1,9 @@
 use mathlib.Core.Path.{ap, ◌∙◌}
 use lib.IntN.{ℤ}
+use native.Mathlib.Omega.{arith}
 use mir.Syntax.{w32, w64}
-use mir.Facts.{to_z-of_z}
-use borrow.Author.Rules.{sfits_of, rules}
+use Rattle.laws.proofs.Fitting.{back}
+use borrow.Author.Rules.{rules}
 use Rattle.carrying.specs.Carry.{cut_to}
 use Rattle.cutting.specs.Cuts.{plain, cut_taken, cut_left}
 use Rattle.carrying.proofs.cut.Goals as goal
@@ -10,7 +11,7 @@ use Rattle.carrying.proofs.cut.Goals as goal
 pub returns : goal.returns
 returns c =
     let a = c.args in
-    let x = to_z-of_z {w = w64} (sfits_of c.widened-at.type_inv) ∙ c.widened-at.ensures.0 ∙ (to_z-of_z {w = w32} {z = a.r.x} (sfits_of c.struct_told-1.given.1.1.0.1)) in
+    let x = back w64 c.widened-at.result c.widened-at.type_inv ∙ c.widened-at.ensures.0 ∙ (back w32 a.r.x (omega arith)) in
     let l = a.events.now in
     let n = a.state.count in
     let e = c.play_from-t.ensures in

@@ -3,8 +3,8 @@ use native.Mathlib.Omega.{arith}
 use lib.IntN.{ℤ}
 use lib.ListN.{length}
 use mir.Syntax.{w32}
-use mir.Facts.{to_z-of_z}
-use borrow.Author.Rules.{sfits_of, rules}
+use Rattle.laws.proofs.Fitting.{back}
+use borrow.Author.Rules.{rules}
 use Rattle.numbers.specs.Limits.{list_limit}
 use Rattle.carrying.specs.Carry.{drawn_to, curve_of}
 use Rattle.counted.specs.Numbers.{shown}
@@ -13,12 +13,12 @@ use Rattle.carrying.proofs.draw.Goals as goal
 
 pub slice_bounds-draw_first-end : goal.slice_bounds-draw_first-end
 slice_bounds-draw_first-end c =
-    let e : length c.args.r.list.items ≡ list_limit = search (rules, c.struct_told-1.given.1.1.1.1.0) in
+    let e : length c.args.r.list.items ≡ list_limit = search rules in
     sym e
 
 pub draw_first-requires : goal.draw_first-requires
 draw_first-requires c =
-    let e : length c.args.r.list.items ≡ list_limit = search (rules, c.struct_told-1.given.1.1.1.1.0) in
+    let e : length c.args.r.list.items ≡ list_limit = search rules in
     omega (arith, c.requires)
 
 pub returns : goal.returns
@@ -26,7 +26,7 @@ unfolding curve_of
 returns c =
     let a = c.args in
     let s = a.state in
-    let x = to_z-of_z {w = w32} {z = a.r.x} (sfits_of c.struct_told-1.given.1.1.0.1) in
+    let x = back w32 a.r.x (omega arith) in
     let v = shown a.r.list in
     let l = a.events.now in
     let e = c.draw_first.ensures in (

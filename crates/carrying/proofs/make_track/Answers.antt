@@ -1,7 +1,8 @@
 use mathlib.Core.Path.{ap, ◌∙◌}
+use native.Mathlib.Omega.{arith}
 use mir.Syntax.{w32}
-use mir.Facts.{to_z-of_z}
-use borrow.Author.Rules.{sfits_of, rules}
+use Rattle.laws.proofs.Fitting.{back}
+use borrow.Author.Rules.{rules}
 use Rattle.carrying.specs.Carry.{track_answered, make_track}
 use Rattle.carrying.proofs.make_track.Goals as goal
 
@@ -9,6 +10,6 @@ pub returns : goal.returns
 unfolding make_track
 returns c =
     let a = c.args in
-    let x = to_z-of_z {w = w32} {z = a.r.x} (sfits_of c.struct_told-1.given.1.1.0.1) in
-    let y = to_z-of_z {w = w32} {z = a.r.y} (sfits_of c.struct_told-2-1.given.1.1.1.0.1) in
+    let x = back w32 a.r.x (omega arith) in
+    let y = back w32 a.r.y (omega arith) in
     ap (track_answered a.state) (c.new-t.ensures ∙ rw (x, y))

@@ -1,8 +1,9 @@
 use mathlib.Core.Path.{ap, ◌∙◌}
 use lib.IntN.{ℤ}
+use native.Mathlib.Omega.{arith}
 use mir.Syntax.{w32, w64}
-use mir.Facts.{to_z-of_z}
-use borrow.Author.Rules.{sfits_of, rules}
+use Rattle.laws.proofs.Fitting.{back}
+use borrow.Author.Rules.{rules}
 use Rattle.carrying.specs.Carry.{cycled_to, turn_answer, turn_list}
 use Rattle.cycling.specs.Calls.{cycled_of, cycled_list}
 use Rattle.numbers.specs.Limits.{places}
@@ -12,7 +13,7 @@ pub returns : goal.returns
 unfolding turn_answer turn_list
 returns c =
     let a = c.args in
-    let x = to_z-of_z {w = w64} (sfits_of c.widened-until.type_inv) ∙ c.widened-until.ensures.0 ∙ (to_z-of_z {w = w32} {z = a.r.x} (sfits_of c.struct_told-1.given.1.1.0.1)) in
+    let x = back w64 c.widened-until.result c.widened-until.type_inv ∙ c.widened-until.ensures.0 ∙ (back w32 a.r.x (omega arith)) in
     let l = a.events.now in
     let s = a.state in
     let e = c.write_cc_on_cycle-k.ensures in

@@ -1,5 +1,4 @@
 -- `event_fits` meets its contract: every test is made, and each answers its part of the definition.
-use borrow.Author.Rules.{rules}
 use Prim.Native.Nat.{ℕ, ◌^◌, ◌<◌}
 use lib.Dec.{lit<}
 use lib.IntN.{pos}

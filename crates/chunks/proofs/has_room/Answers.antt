@@ -1,5 +1,4 @@
 -- `has_room` meets its contract: a body whose length has four bytes is asked for its room.
-use borrow.Author.Rules.{rules}
 use borrow.Author.Tests.{lt-ltb, le-ltb}
 use Rattle.chunks.specs.Writing.{room_for}
 use Rattle.chunks.proofs.has_room.Goals as goal

@@ -1,5 +1,4 @@
 -- `is_data` meets its contract: the test is the range of the definition.
-use borrow.Author.Rules.{rules}
 use mir.Syntax.{w64}
 use Rattle.laws.proofs.Tests.{is_at}
 use Rattle.chunks.specs.Writing.{is_data}

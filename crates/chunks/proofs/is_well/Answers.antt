@@ -1,14 +1,13 @@
 -- `is_well` meets its contract: the time is asked first, so that the gap fits; then every test is made, and each answers its part of the definition.
 use mathlib.Core.Path.{◌≡◌, ap, ◌∙◌, sym}
 use mathlib.Core.Bool.{true}
-use borrow.Author.Rules.{rules}
 use lib.Dec.{lit<}
 use lib.IntN.{pos}
 use mir.Syntax.{w64}
 use mir.Val.{SFits}
 use Rattle.laws.specs.Integers.{inside}
 use Rattle.laws.proofs.Bits.{flag}
-use Rattle.laws.proofs.Tests.{is_at, no, yes, and_no, and_yes, both}
+use Rattle.laws.proofs.Tests.{is_at, and_no, and_yes, both}
 use Rattle.numbers.specs.Ranges.{is_event_time, is_channel, is_word}
 use Rattle.chunks.specs.Writing.{longest_gap}
 use Rattle.chunks.specs.Steps.{well_after}

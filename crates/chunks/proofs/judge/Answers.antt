@@ -11,7 +11,6 @@ use Rattle.laws.proofs.Tests.{no, yes}
 use Rattle.eventlist.specs.Rows.{events_of}
 use Rattle.eventlist.specs.Sound.{ok_events}
 use Rattle.eventlist.proofs.Sound.{list-within}
-use Rattle.events.specs.declared.Event.{Event}
 use Rattle.chunks.specs.Chunks.{body_of}
 use Rattle.chunks.specs.Writing.{gapped, fits, room_for}
 use Rattle.chunks.specs.Steps.{weighed}

@@ -3,7 +3,6 @@ use mathlib.Core.Path.{ap}
 use Prim.Native.Nat.{ℕ, ◌%◌}
 use native.Mathlib.Omega.{arith}
 use mir.Syntax.{w64}
-use borrow.Author.Rules.{rules}
 use Rattle.numbers.specs.Ranges.{is_bend}
 use Rattle.chunks.proofs.Leaves.{cast_fits, cast-cut}
 use Rattle.chunks.proofs.low.Goals as goal

@@ -1,5 +1,4 @@
 -- `move_on` meets its contract: behind an event the pen stands past its bytes, at its time.
-use borrow.Author.Rules.{rules}
 use mir.Facts.{to_z-of_z}
 use Rattle.chunks.proofs.Leaves.{time-fits}
 use Rattle.chunks.proofs.move_on.Goals as goal

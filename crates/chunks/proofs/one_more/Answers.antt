@@ -1,6 +1,5 @@
 -- `one_more` meets its contract: each field of the tally is asked of the event behind the last.
 use mathlib.Core.Path.{ap, ◌∙◌}
-use borrow.Author.Rules.{rules}
 use lib.IntN.{pos}
 use mir.Facts.{to_z-of_z}
 use Rattle.laws.specs.Integers.{inside}

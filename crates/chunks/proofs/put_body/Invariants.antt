@@ -1,13 +1,7 @@
 -- `put_body` meets its contract: what is left of the events, put where the pen stands, makes the output that is promised (PutTo, of Passes).
-use borrow.Author.Rules.{rules}
-use mathlib.Core.List.{List}
 use Prim.Native.Nat.{◌-◌, ◌≤◌}
-use native.Mathlib.Omega.{arith}
-use lib.ListN.{length}
-use lib.Seq.{length-take-le}
-use Rattle.events.specs.declared.Event.{Event}
-use Rattle.eventlist.specs.Rows.{rows_of, events_of}
-use Rattle.chunks.proofs.Passes.{Next, next_of, PutTo, put-begun, put-writable, put-room, put-passed, put-tail, put_ended}
+use Rattle.eventlist.specs.Rows.{events_of}
+use Rattle.chunks.proofs.Passes.{PutTo}
 use Rattle.chunks.proofs.put_body.Given as goal
 
 abbrev pub invariant-loop-i : goal.invariant-loop-i

@@ -1,6 +1,5 @@
 -- `put_head` meets its contract: the mark, and the length behind it.
 use native.Mathlib.Omega.{arith}
-use borrow.Author.Rules.{rules}
 use Rattle.text.proofs.Laying.{put-behind}
 use Rattle.chunks.specs.Chunks.{big_endian, mark}
 use Rattle.chunks.proofs.put_head.Goals as goal

@@ -1,16 +1,13 @@
 -- `weigh` meets its contract: what was seen of the events passed, and those left, say the answer (WeighedTo, of Passes).
 use mathlib.Core.Path.{sym, ◌∙◌}
-use borrow.Author.Rules.{rules}
 use mathlib.Core.List.{List}
-use Prim.Native.Nat.{◌-◌, ◌≤◌}
 use native.Mathlib.Omega.{arith}
 use lib.Seq.{length-take-le}
-use Rattle.laws.proofs.Tests.{no, yes}
 use Rattle.eventlist.specs.Rows.{rows_of, events_of}
 use Rattle.eventlist.proofs.EventRows.{length-rows_of}
 use Rattle.events.specs.declared.Event.{Event}
 use Rattle.events.proofs.Stored.{storable}
-use Rattle.chunks.proofs.Passes.{Next, next_of, WeighedTo, weigh-begun, weigh-failed, weigh-passed, weigh-ended}
+use Rattle.chunks.proofs.Passes.{Next, next_of, weigh-begun, weigh-failed, weigh-passed, weigh-ended}
 use Rattle.chunks.proofs.weigh.Goals as goal
 
 module _ (c : goal.After-struct_known-1) where

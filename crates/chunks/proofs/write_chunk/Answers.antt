@@ -1,6 +1,5 @@
 -- `write_chunk` meets its contract: where the judge refuses the output is left; elsewhere every test holds (Refusing), and the head and
 -- the body behind it are the chunk.
-use borrow.Author.Rules.{rules}
 use mathlib.Core.Path.{◌≡◌, sym, ap, ◌∙◌}
 use mathlib.Core.List.{List}
 use Prim.Native.Nat.{ℕ, ◌+◌, ◌-◌, ◌≤◌}

@@ -1,12 +1,7 @@
 -- `all_fit` meets its contract: the events passed fit, so that those left decide (laws of Tests).
-use mathlib.Core.Bool.{Bool}
-use mathlib.Core.Path.{◌≡◌, refl, sym, ap, ◌∙◌}
 use Prim.Native.Nat.{◌-◌, ◌≤◌}
-use native.Mathlib.Omega.{arith}
-use lib.ListN.{get_or}
-use Rattle.laws.proofs.Tests.{Left, passed-of, failed-of, ended_of, no, yes}
-use Rattle.events.specs.Events.{zero_event}
-use Rattle.eventlist.specs.Rows.{rows_of, events_of}
+use Rattle.laws.proofs.Tests.{Left}
+use Rattle.eventlist.specs.Rows.{events_of}
 use Rattle.cutting.specs.Cuts.{fits_cut}
 use Rattle.cutting.proofs.all_fit.Given as goal
 

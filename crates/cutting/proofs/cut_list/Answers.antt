@@ -1,12 +1,11 @@
 -- `cut_list` meets its contract: the tests in their order (Refusing), then the passes, whose contract for a whole number of
 -- records says every number (`determined`).
-use borrow.Author.Rules.{rules}
 use mathlib.Core.Path.{◌≡◌, sym, ap, ap₂, ◌∙◌}
 use mathlib.Core.Bool.{cond}
 use mathlib.Core.List.{List}
 use Prim.Native.Nat.{ℕ}
 use native.Mathlib.Omega.{arith}
-use lib.ListN.{length, length-append}
+use lib.ListN.{length-append}
 use lib.Seq.{length-take-le}
 use mir.Syntax.{w64}
 use Rattle.laws.specs.Lists.{put_first}

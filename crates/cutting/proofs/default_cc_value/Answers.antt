@@ -2,9 +2,8 @@
 use borrow.Author.Rules.{rules}
 use lib.Dec.{lit<}
 use lib.IntN.{pos}
-use mathlib.Core.Path.{◌≡◌}
 use mir.Syntax.{w64}
-use mir.Val.{SFits, of_z}
+use mir.Val.{SFits}
 use native.Mathlib.Omega.{arith}
 use Rattle.laws.proofs.Bits.{bits-eq, bits-differ}
 use Rattle.cutting.specs.Value.{default_of}

@@ -1,5 +1,4 @@
 -- `fits` meets its contract: a time that stays near enough fits whether the event is kept or not.
-use borrow.Author.Rules.{rules}
 use mathlib.Core.Path.{◌≡◌, refl, sym, ap, ◌∙◌}
 use mathlib.Core.Bool.{Bool, true, false, not, ◌||◌}
 use native.Mathlib.Omega.{arith}

@@ -1,12 +1,10 @@
 -- `fold` meets its contract: what is remembered is what is folded, and finds room (Composing).
-use borrow.Author.Rules.{rules}
 use mathlib.Core.Path.{◌≡◌, ap, ap₂, ◌∙◌}
-use mathlib.Core.List.{List, ◌++◌}
-use Prim.Native.Nat.{ℕ, ◌+◌, ◌≤◌}
+use mathlib.Core.List.{◌++◌}
+use Prim.Native.Nat.{ℕ}
 use native.Mathlib.Omega.{arith}
-use lib.IntN.{ℤ}
 use lib.ListN.{length, length-append}
-use Rattle.eventlist.specs.Rows.{rows_of, events_of}
+use Rattle.eventlist.specs.Rows.{events_of}
 use Rattle.eventlist.proofs.EventRows.{same_rows}
 use Rattle.cutting.specs.declared.Parts.{Parts}
 use Rattle.cutting.specs.Cuts.{unset, in_order, folded, kept_of}

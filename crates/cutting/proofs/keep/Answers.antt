@@ -1,6 +1,5 @@
 -- `keep` meets its contract: of the first i the n that are kept stand shifted in front (`Moving`), and what is cleared at
 -- the end makes it whole (`settled`).
-use borrow.Author.Rules.{rules}
 use mathlib.Core.Bool.{Bool, not}
 use mathlib.Core.Path.{◌≡◌, sym, ap, ◌∙◌}
 use mathlib.Core.List.{List}

@@ -1,14 +1,12 @@
 -- `note_value` meets its contract: the number of a controller's event is a place of the table.
 use borrow.Author.Rules.{rules}
-use mathlib.Core.Path.{◌≡◌, ◌∙◌}
-use mathlib.Core.Bool.{true}
+use mathlib.Core.Path.{◌∙◌}
 use native.Mathlib.Omega.{arith}
 use mir.Syntax.{w64}
 use Rattle.laws.proofs.Bits.{bits-eq, bits-differ}
 use Rattle.laws.proofs.Fitting.{fit, back}
 use Rattle.laws.proofs.Signed.{lt_back}
 use Rattle.events.specs.Kinds.{control_change}
-use Rattle.cutting.specs.Cuts.{folds}
 use Rattle.cutting.specs.Passes.{valued}
 use Rattle.cutting.proofs.Folding.{folds-early, folds-late, folds_is}
 use Rattle.cutting.proofs.Stored.{numbered, controller-up, controller-cut}

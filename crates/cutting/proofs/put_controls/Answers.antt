@@ -1,5 +1,4 @@
 -- `put_controls` meets its contract: what is left to be put, put, would make the list that is asked for (`Putting`).
-use borrow.Author.Rules.{rules}
 use mathlib.Core.Path.{◌≡◌, sym, ap, ◌∙◌}
 use mathlib.Core.Bool.{false}
 use mathlib.Core.List.{List, [], ◌∷◌}
@@ -61,7 +60,7 @@ loop-k-preserved-then-v-lt0 c =
 
 pub append-n-requires : goal.append-n-requires
 append-n-requires c =
-    room c.loop-k.invariant c.loop-k-test.true (fit w64 (value c.args.values.now c.loop-k.k) (omega arith)) c.if-v-lt0.false c.requires
+    room c.loop-k.invariant (omega arith) (fit w64 (value c.args.values.now c.loop-k.k) (omega arith)) c.if-v-lt0.false c.requires
 
 pub loop-k-preserved : goal.loop-k-preserved
 loop-k-preserved c =
@@ -69,8 +68,8 @@ loop-k-preserved c =
     let table = c.args.values.now in
     let last = c.args.last in
     let f = fit w64 (value table k) (omega arith) in
-    let t = next c.loop-k.invariant c.loop-k-test.true f c.if-v-lt0.false in
-    let r = room c.loop-k.invariant c.loop-k-test.true f c.if-v-lt0.false c.requires in
+    let t = next c.loop-k.invariant (omega arith) f c.if-v-lt0.false in
+    let r = room c.loop-k.invariant (omega arith) f c.if-v-lt0.false c.requires in
     let small : SFits w64 (pos k) = omega arith in
     let e : c.cc_event.result ≡ first table last k =
     rw (back w64 last.channel (omega arith), to_z-of_z small, to_z-of_z f) at c.cc_event.ensures in

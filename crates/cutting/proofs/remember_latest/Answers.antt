@@ -1,6 +1,5 @@
 -- `remember_latest` meets its contract: what it has after i events is what counts last among them, sorted, and one more takes
 -- it further (`stood-more`, `holds-latest`).
-use borrow.Author.Rules.{rules}
 use mathlib.Core.Path.{◌≡◌, ap, ap₂, ◌∙◌}
 use native.Mathlib.Omega.{arith}
 use lib.ListN.{get_or, take}

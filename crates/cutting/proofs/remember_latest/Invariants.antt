@@ -1,23 +1,14 @@
 -- `remember_latest` meets its contract: what it has after i events is what counts last among them, sorted, and one more takes
 -- it further (`stood-more`, `holds-latest`).
-use borrow.Author.Rules.{rules}
-use mathlib.Core.Path.{◌≡◌, ap, ap₂, ◌∙◌}
-use mathlib.Core.Bool.{true}
+use mathlib.Core.Path.{◌≡◌}
 use Prim.Native.Nat.{◌-◌, ◌≤◌}
-use native.Mathlib.Omega.{arith}
-use lib.ListN.{get_or, take}
-use Rattle.laws.proofs.Every.{all-below}
-use Rattle.events.specs.declared.Event.{Event}
-use Rattle.events.specs.Events.{zero_event}
+use lib.ListN.{take}
 use Rattle.eventlist.specs.Rows.{rows_of}
 use Rattle.sorting.specs.Stable.{stable_sort}
 use Rattle.sorting.specs.Sorting.{earlier}
-use Rattle.cutting.specs.Cuts.{unset, control_at}
-use Rattle.cutting.specs.Passes.{Holds, sound}
-use Rattle.cutting.specs.ByTime.{standing_at, stood, last_in, earliest, time_at}
-use Rattle.cutting.proofs.ByTime.{stood-more, standing-last}
-use Rattle.cutting.proofs.Stored.{sound-number}
-use Rattle.cutting.proofs.Values.{holds-latest}
+use Rattle.cutting.specs.Cuts.{control_at}
+use Rattle.cutting.specs.Passes.{Holds}
+use Rattle.cutting.specs.ByTime.{standing_at, time_at}
 use Rattle.cutting.proofs.remember_latest.Given as goal
 
 abbrev pub invariant-loop-i : goal.invariant-loop-i

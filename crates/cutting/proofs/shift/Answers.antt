@@ -1,5 +1,4 @@
 -- `shift` meets its contract: times and cuts are small enough for their difference to fit.
-use borrow.Author.Rules.{rules}
 use mathlib.Core.Path.{◌≡◌, ap, ◌∙◌}
 use mathlib.Core.Bool.{true}
 use Prim.Native.Nat.{◌^◌}

@@ -1,17 +1,9 @@
 -- `value_in` meets its contract: what was passed from the end has no say, so that the value is that of the first i.
-use borrow.Author.Rules.{rules}
-use mathlib.Core.Bool.{Bool, cond}
-use mathlib.Core.Path.{◌≡◌, refl, sym, ap, ◌∙◌}
-use Prim.Native.Nat.{◌-◌, ◌≤◌}
-use native.Mathlib.Omega.{arith}
-use lib.ListN.{get_or, take}
-use mir.Syntax.{w64}
-use Rattle.laws.proofs.Fitting.{back}
-use Rattle.events.specs.declared.Event.{Event}
-use Rattle.events.specs.Events.{zero_event}
+use mathlib.Core.Path.{◌≡◌}
+use Prim.Native.Nat.{◌≤◌}
+use lib.ListN.{take}
 use Rattle.eventlist.specs.Rows.{rows_of, events_of}
-use Rattle.cutting.specs.Value.{default_of, speaks, cc_value}
-use Rattle.cutting.proofs.Lasts.{last_less}
+use Rattle.cutting.specs.Value.{cc_value}
 use Rattle.cutting.proofs.value_in.Given as goal
 
 abbrev pub invariant-loop-i : goal.invariant-loop-i

@@ -10,7 +10,6 @@ use lib.IntN.{ℤ, pos, negsuc, nat_abs}
 use lib.Signed.{lt_z, non_neg}
 use mir.Facts.{to_z-of_z}
 use Rattle.laws.specs.Integers.{inside}
-use Rattle.laws.proofs.Signed.{lt-back-l}
 use Rattle.numbers.specs.Ranges.{is_target}
 use Rattle.cycles.specs.Due.{code_of, key}
 use Rattle.cycles.proofs.key_of.Goals as goal

@@ -1,14 +1,8 @@
 -- `cycles::run_record`: the loop's invariant and its steps are proofs/Running's; here they meet the slice.
-use mathlib.Core.Path.{◌≡◌, refl, ◌∙◌}
+use mathlib.Core.Path.{◌≡◌}
 use Prim.Native.Nat.{◌-◌}
-use borrow.Author.Rules.{rules}
 use lib.ListN.{length}
-use mir.Syntax.{w64}
-use mir.Val.{SFits}
-use Rattle.laws.proofs.Signed.{lt_back}
 use Rattle.eventlist.specs.Rows.{rows_of}
-use Rattle.cycles.proofs.Rules.{sound}
-use Rattle.cycles.proofs.Fitting.{fits_next}
 use Rattle.cycles.proofs.Running as R
 use Rattle.cycles.proofs.run_record.Given as goal
 

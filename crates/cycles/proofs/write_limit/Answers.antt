@@ -1,6 +1,5 @@
 -- `cycles::write_limit`: the lesser of the two, and so within the bound under which a count for each record stops nothing.
 use native.Mathlib.Omega.{arith}
-use borrow.Author.Rules.{rules}
 use Rattle.cycles.specs.Calls.{limit}
 use Rattle.cycles.proofs.Loop.{unstopped}
 use Rattle.cycles.proofs.write_limit.Goals as goal

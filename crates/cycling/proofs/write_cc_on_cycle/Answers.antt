@@ -1,6 +1,5 @@
 -- `write_cc_on_cycle`: its number is asked by division (`quick`); where it is 0, the used records' run is what the call leaves, and
 -- for a whole number of records that says every number of the list (`determined`).
-use borrow.Author.Rules.{rules}
 use mathlib.Core.Path.{◌≡◌, sym, ap, ◌∙◌}
 use mathlib.Core.Bool.{true, ◌&&◌}
 use mathlib.Core.List.{List}

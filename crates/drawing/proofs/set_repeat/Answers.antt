@@ -15,13 +15,14 @@ use Rattle.drawing.specs.Options.{target_refusal, option_of, with_option, with_r
 use Rattle.drawing.proofs.Refusing.{unmoved, settled, usable}
 use Rattle.state.proofs.Stored.{notes-few}
 use Rattle.state.proofs.Answers.{code_of}
+use Rattle.drawing.proofs.set_repeat.Goals.{After-leave_option-r}
 use Rattle.drawing.proofs.set_repeat.Goals as goal
 
 -- the answer with these notes
 abbrev noted : TrackAnswer → NoteTable → TrackAnswer
 noted r n = answer 0 (with_tables r.track n r.track.waves r.track.sines r.track.cycles)
 
-module _ (c : goal.Then-r-ne0) where
+module _ (c : After-leave_option-r) where
   abbrev number : ℕ
   number = target_refusal c.args.track c.args.target (leb c.args.on 1)
 
@@ -29,7 +30,7 @@ module _ (c : goal.Then-r-ne0) where
   told =
       let a = c.args.track in
       let n = c.args.on in
-      let target = to_z-of_z c.fits.target in
+      let target = to_z-of_z c.ranges.target in
       c.leave_option-r.ensures
       ∙ ap (λ (z : ℤ). left a z (with_repeat c.option_of-option.result n) (leb n 1)) target
       ∙ ap (λ (o : WriteOption). left a c.args.target (with_repeat o n) (leb n 1)) (c.option_of-option.ensures ∙ ap (option_of a) target)
@@ -38,56 +39,25 @@ module _ (c : goal.Then-r-ne0) where
   unfolding left
   numbered = ap (λ (r : TrackAnswer). r.code) told ∙ code_of c.args.track _ number
 
-module _ (c : goal.After-turn_notes-arg-1) where
-  abbrev number-at-2 : ℕ
-  number-at-2 = target_refusal c.args.track c.args.target (leb c.args.on 1)
-
-  told-at-2 : c.leave_option-r.result ≡ left c.args.track c.args.target (with_repeat (option_of c.args.track c.args.target) c.args.on) (leb c.args.on 1)
-  told-at-2 =
-      let a = c.args.track in
-      let n = c.args.on in
-      let target = to_z-of_z c.fits.target in
-      c.leave_option-r.ensures
-      ∙ ap (λ (z : ℤ). left a z (with_repeat c.option_of-option.result n) (leb n 1)) target
-      ∙ ap (λ (o : WriteOption). left a c.args.target (with_repeat o n) (leb n 1)) (c.option_of-option.ensures ∙ ap (option_of a) target)
-
-  numbered-at-2 : c.leave_option-r.result.code ≡ number-at-2
-  unfolding left
-  numbered-at-2 = ap (λ (r : TrackAnswer). r.code) told-at-2 ∙ code_of c.args.track _ number-at-2
-
-module _ (c : goal.After-turn_notes-t) where
-  abbrev number-at-3 : ℕ
-  number-at-3 = target_refusal c.args.track c.args.target (leb c.args.on 1)
-
-  told-at-3 : c.leave_option-r.result ≡ left c.args.track c.args.target (with_repeat (option_of c.args.track c.args.target) c.args.on) (leb c.args.on 1)
-  told-at-3 =
-      let a = c.args.track in
-      let n = c.args.on in
-      let target = to_z-of_z c.fits.target in
-      c.leave_option-r.ensures
-      ∙ ap (λ (z : ℤ). left a z (with_repeat c.option_of-option.result n) (leb n 1)) target
-      ∙ ap (λ (o : WriteOption). left a c.args.target (with_repeat o n) (leb n 1)) (c.option_of-option.ensures ∙ ap (option_of a) target)
-
-  numbered-at-3 : c.leave_option-r.result.code ≡ number-at-3
-  unfolding left
-  numbered-at-3 = ap (λ (r : TrackAnswer). r.code) told-at-3 ∙ code_of c.args.track _ number-at-3
-
 pub returns-then-r-ne0 : goal.returns-then-r-ne0
 unfolding left set_repeat
 returns-then-r-ne0 c =
-    told c ∙ unmoved c.args.track _ _ (number c) (λ z. c.if-r-ne0.true (numbered c ∙ z))
+    let d = (goal.at.returns-then-r-ne0 c).After-leave_option-r in
+    told d ∙ unmoved c.args.track _ _ (number d) (λ z. c.if-r-ne0.true (numbered d ∙ z))
 
 pub turn_notes-t-requires : goal.turn_notes-t-requires
 turn_notes-t-requires c =
-    notes-few c.args.track (usable c.args.track c.args.target _ (sym (numbered-at-2 c) ∙ c.if-r-ne0.false))
+    let d = (goal.at.turn_notes-t-requires c).After-leave_option-r in
+    notes-few c.args.track (usable c.args.track c.args.target _ (sym (numbered d) ∙ c.if-r-ne0.false))
 
 pub returns : goal.returns
 unfolding left set_repeat with_option
 returns c =
     let a = c.args.track in
     let n = c.args.on in
-    let zero = sym (numbered-at-3 c) ∙ c.if-r-ne0.false in
-    ap (λ (r : TrackAnswer). noted r c.turn_notes-t.result) (told-at-3 c ∙ settled a _ (number-at-3 c) zero)
+    let d = (goal.at.returns c).After-leave_option-r in
+    let zero = sym (numbered d) ∙ c.if-r-ne0.false in
+    ap (λ (r : TrackAnswer). noted r c.turn_notes-t.result) (told d ∙ settled a _ (number d) zero)
     ∙ ap (noted (answer 0 (with_option a c.args.target (with_repeat (option_of a c.args.target) n))))
     (c.turn_notes-t.ensures ∙ ap (λ (k : ℕ). notes_turned a.notes k n) (c.key_of-k.ensures ∙ ap key (to_z-of_z c.ranges.target)))
-    ∙ sym (settled a _ (number-at-3 c) zero)
+    ∙ sym (settled a _ (number d) zero)

@@ -18,9 +18,6 @@ one_more : (f : OnNoteValues → OnNoteValues) (l m : List OnNoteValues) (i : �
 one_more f l m i d x h e q =
     rw (e, q ∙ sym (get_or-map f l i d)) (over-more l (map f l) i (f d) h (rw (length-map l f) h))
 
-pub loop-i-init : goal.loop-i-init
-loop-i-init c = (search rules, refl)
-
 pub loop-i-preserved : goal.loop-i-preserved
 loop-i-preserved c =
     let a = c.args in

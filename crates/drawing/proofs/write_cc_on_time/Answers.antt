@@ -12,6 +12,6 @@ use Rattle.drawing.proofs.write_cc_on_time.Goals as goal
 pub returns : goal.returns
 returns c =
     let a = c.args in
-    drawn-at (λ (z : ℤ). on_time a.track z a.list.now a.budget a.events.now a.count (length a.store.now)) c.write_on_time.result c.write_on_time.new.1.1.1.1.0
-    (to_z-of_z {c = w32} (sfits_of c.cc_target.type_inv) ∙ c.cc_target.ensures ∙ ap cc_target (to_z-of_z c.ranges.number))
+    drawn-at (λ (z : ℤ). on_time a.track z a.list.now a.budget a.events.now a.count (length a.store.now)) c.write_on_time.result c.write_on_time.new.events
+    (to_z-of_z {w = w32} (sfits_of c.cc_target.type_inv) ∙ c.cc_target.ensures ∙ ap cc_target (to_z-of_z c.ranges.number))
     c.write_on_time.ensures

@@ -10,13 +10,12 @@ pub returns : goal.returns
 unfolding write_of
 returns c =
     let a = c.args.track in
-    let g = c.struct_told-4-1.given in
     let target = to_z-of_z c.ranges.target in
-    let timebase : SFits w32 a.timebase = record { sfits = g.0.1 } in
-    let time : SFits w64 a.timepos = record { sfits = g.1.0.1 } in
-    let channel : SFits w32 a.channel = record { sfits = g.1.1.0.1 } in
-    let ccfreq : SFits w32 a.ccfreq = record { sfits = g.1.1.1.0.1 } in
-    let pbfreq : SFits w32 a.pbfreq = record { sfits = g.1.1.1.1.0.1 } in
+    let timebase : SFits w32 a.timebase = search rules in
+    let time : SFits w64 a.timepos = search rules in
+    let channel : SFits w32 a.channel = search rules in
+    let ccfreq : SFits w32 a.ccfreq = search rules in
+    let pbfreq : SFits w32 a.pbfreq = search rules in
     rw (
       rw (target, to_z-of_z ccfreq, to_z-of_z pbfreq, to_z-of_z timebase) at c.freq_for-freq.ensures,
       rw target at c.option_of-option.ensures,

@@ -1,17 +1,9 @@
 -- `grow` lays fresh layers from the count up to the index (the law Compact's `cleared`). The measure is what is left up to it.
-use mathlib.Core.Path.{◌≡◌, ap, ap₂, ◌∙◌}
-use mathlib.Core.List.{◌++◌}
+use mathlib.Core.Path.{◌≡◌}
 use Prim.Native.Nat.{◌≤◌, ◌+◌, ◌-◌}
-use native.Mathlib.Omega.{arith}
-use lib.ListN.{length, take, drop, replicate}
-use lib.Seq.{length-take-le}
-use borrow.Author.Rules.{rules}
-use borrow.Author.Tests.{le-leb, lt-leb}
-use Rattle.laws.proofs.Compact.{cleared, cleared-none, cleared_more}
-use Rattle.laws.proofs.Reading.{length-told}
-use Rattle.numbers.specs.Limits.{layer_limit}
-use Rattle.layers.specs.declared.Layers.{Layers}
-use Rattle.layers.specs.Layers.{fresh_layer, with_items, grown}
+use lib.ListN.{take}
+use Rattle.laws.proofs.Compact.{cleared}
+use Rattle.layers.specs.Layers.{fresh_layer, with_items}
 use Rattle.layers.proofs.grow.Given as goal
 
 abbrev pub invariant-loop-i : goal.invariant-loop-i

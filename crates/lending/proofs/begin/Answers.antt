@@ -1,5 +1,4 @@
 -- `begin` asks for the call's number and for how many writes it may make.
-use borrow.Author.Rules.{rules}
 use mir.Facts.{to_z-of_z}
 use Rattle.lending.specs.Writing.{begun_with}
 use Rattle.lending.proofs.begin.Goals as goal

@@ -1,5 +1,4 @@
 -- `load_job` has sixteen places of its own, each as an unused one is.
-use borrow.Author.Rules.{rules}
 use Rattle.lending.proofs.load_job.Goals as goal
 
 pub returns : goal.returns

@@ -2,7 +2,6 @@
 use native.Mathlib.Omega.{arith}
 use Rattle.lines.specs.Lines.{done_text}
 use Rattle.lines.proofs.Putting.{behind}
-use borrow.Author.Rules.{rules}
 use Rattle.lines.proofs.put_done.Goals as goal
 
 pub returns : goal.returns

@@ -2,7 +2,6 @@
 use native.Mathlib.Omega.{arith}
 use Rattle.lines.proofs.Putting.{puts, behind}
 use Rattle.lines.specs.Lines.{first_text}
-use borrow.Author.Rules.{rules}
 use Rattle.lines.proofs.put_first.Goals as goal
 
 pub returns : goal.returns

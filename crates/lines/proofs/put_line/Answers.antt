@@ -3,7 +3,7 @@ use native.Mathlib.Omega.{arith}
 use Rattle.lines.proofs.Putting.{behind}
 use mir.Facts.{to_z-of_z}
 use mir.Syntax.{w64}
-use borrow.Author.Rules.{sfits_of, rules}
+use borrow.Author.Rules.{sfits_of}
 use Rattle.lines.specs.Lines.{line_text}
 use Rattle.lines.proofs.put_line.Goals as goal
 

@@ -1,13 +1,13 @@
 -- `put_lines` puts a line a turn behind those that stand (`Lines`). The measure is the events that are left.
 use mathlib.Core.Path.{◌≡◌, sym, ◌∙◌}
-use Prim.Native.Nat.{◌-◌, ◌≤◌, ◌<◌}
+use Prim.Native.Nat.{◌≤◌, ◌<◌}
 use native.Mathlib.Omega.{arith}
 use lib.ListN.{take, get_or}
 use lib.Seq.{length-take-le, get_or-take}
 use borrow.Author.Rules.{rules}
 use Rattle.events.specs.Events.{zero_event}
 use Rattle.eventlist.specs.Rows.{rows_of, events_of}
-use Rattle.lines.proofs.Putting.{Lines, no_lines, one_line, all_lines}
+use Rattle.lines.proofs.Putting.{no_lines, one_line, all_lines}
 use Rattle.lines.proofs.put_lines.Goals as goal
 
 pub loop-i-init : goal.loop-i-init

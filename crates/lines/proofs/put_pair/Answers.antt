@@ -2,7 +2,6 @@
 use native.Mathlib.Omega.{arith}
 use Rattle.lines.proofs.Putting.{behind}
 use Rattle.lines.specs.Lines.{pair_text}
-use borrow.Author.Rules.{rules}
 use Rattle.lines.proofs.put_pair.Goals as goal
 
 pub returns : goal.returns

@@ -1,7 +1,6 @@
 -- `put_word`: the word, and the number behind it.
 use native.Mathlib.Omega.{arith}
 use Rattle.lines.proofs.Putting.{puts, behind}
-use borrow.Author.Rules.{rules}
 use Rattle.lines.proofs.put_word.Goals as goal
 
 pub returns : goal.returns

@@ -1,5 +1,4 @@
 -- The sum is only asked where it fits, which both numbers' sizes say.
-use borrow.Author.Rules.{rules}
 use mathlib.Core.Path.{ap}
 use mathlib.Core.Bool.{not}
 use native.Mathlib.Omega.{arith}

@@ -17,8 +17,8 @@ kind_fits-at-2 c = record { sfits = c.struct_told-1.given.0.1 }
 
 pub returns-in-0 : goal.returns-in-0
 unfolding is_note
-returns-in-0 c = rw (bits-same (kind_fits c) constant c.in-0-own.keys1)
+returns-in-0 c = rw (bits-same (kind_fits c) constant c.in-0.in-0-own.keys1)
 
 pub returns-in_default : goal.returns-in_default
 unfolding is_note
-returns-in_default c = rw (bits-differ (kind_fits-at-2 c) constant c.in_default-own.rest.1)
+returns-in_default c = rw (bits-differ (kind_fits-at-2 c) constant c.in_default.in_default-own.rest.1)

@@ -1,5 +1,4 @@
 -- `normalize` meets its contract, as `split_note_off` does, in the list itself.
-use borrow.Author.Rules.{rules}
 use mathlib.Core.Path.{sym, ◌∙◌}
 use native.Mathlib.Omega.{arith}
 use lib.ListN.{length}
@@ -36,4 +35,4 @@ pub returns : goal.returns
 returns c =
     let s = c.args in
     done-is (length s.store.now) s.events.now s.count s.events.now s.count _ c.split_refusal-code.ensures c.if-code-ne0.false
-    c.split_count-total.result c.split_count-total.ensures c.split_in_place.new.0 c.split_in_place.auto.0 c.split_in_place.ensures
+    c.split_count-total.result c.split_count-total.ensures c.split_in_place.new.events c.split_in_place.auto.events c.split_in_place.ensures

@@ -1,9 +1,8 @@
 -- `split_count` meets its contract: n is what comes of the first i events.
-use borrow.Author.Rules.{rules}
 use mathlib.Core.Path.{◌≡◌, refl, sym, ◌∙◌}
-use Prim.Native.Nat.{◌-◌, ◌*◌, ◌≤◌}
+use Prim.Native.Nat.{◌*◌, ◌≤◌}
 use native.Mathlib.Omega.{arith}
-use lib.ListN.{length, take}
+use lib.ListN.{take}
 use lib.Seq.{length-take-le}
 use Rattle.eventlist.specs.Rows.{rows_of}
 use Rattle.eventlist.proofs.EventRows.{length-rows_of}

@@ -1,6 +1,5 @@
 -- `split_in_place` meets its contract: from the end, what comes of the events passed stands behind the part of the list that
 -- still stands (`Backing`), so that each event is read before its place is written.
-use borrow.Author.Rules.{rules}
 use mathlib.Core.Bool.{true, false}
 use mathlib.Core.Path.{◌≡◌, refl, sym, ap, ◌∙◌, subst}
 use mathlib.Core.List.{List}
@@ -52,7 +51,7 @@ module _ (c : goal.Then-is_note) where
   back : Backing l₀ (rows_of c.loop-i.events) c.args.count (j + 1) c.loop-i.n
   back =
       let e : c.loop-i.i ≡ c.loop-i.i - 1 + 1 = omega arith in
-      subst (λ (k : ℕ). Backing l₀ (rows_of c.loop-i.events) c.args.count k c.loop-i.n) e c.loop-i.inv.1
+      subst (λ (k : ℕ). Backing l₀ (rows_of c.loop-i.events) c.args.count k c.loop-i.n) e c.loop-i.invariant.1
 
   is : c.read_event-e.result ≡ get_or (take c.args.count l₀) j zero_event
   is = c.read_event-e.ensures ∙ back_read l₀ c.args.count fit room (rows_of c.loop-i.events) j c.loop-i.n back c.read_event-e.result
@@ -77,7 +76,7 @@ module _ (c : goal.After-write_event-arg-1) where
   back-at-2 : Backing l₀-at-2 (rows_of c.loop-i.events) c.args.count (j-at-2 + 1) c.loop-i.n
   back-at-2 =
       let e : c.loop-i.i ≡ c.loop-i.i - 1 + 1 = omega arith in
-      subst (λ (k : ℕ). Backing l₀-at-2 (rows_of c.loop-i.events) c.args.count k c.loop-i.n) e c.loop-i.inv.1
+      subst (λ (k : ℕ). Backing l₀-at-2 (rows_of c.loop-i.events) c.args.count k c.loop-i.n) e c.loop-i.invariant.1
 
   is-at-2 : c.read_event-e.result ≡ get_or (take c.args.count l₀-at-2) j-at-2 zero_event
   is-at-2 = c.read_event-e.ensures ∙ back_read l₀-at-2 c.args.count fit-at-2 room-at-2 (rows_of c.loop-i.events) j-at-2 c.loop-i.n back-at-2 c.read_event-e.result
@@ -109,7 +108,7 @@ module _ (c : goal.After-off_of) where
   back-at-3 : Backing l₀-at-3 (rows_of c.loop-i.events) c.args.count (j-at-3 + 1) c.loop-i.n
   back-at-3 =
       let e : c.loop-i.i ≡ c.loop-i.i - 1 + 1 = omega arith in
-      subst (λ (k : ℕ). Backing l₀-at-3 (rows_of c.loop-i.events) c.args.count k c.loop-i.n) e c.loop-i.inv.1
+      subst (λ (k : ℕ). Backing l₀-at-3 (rows_of c.loop-i.events) c.args.count k c.loop-i.n) e c.loop-i.invariant.1
 
   is-at-3 : c.read_event-e.result ≡ get_or (take c.args.count l₀-at-3) j-at-3 zero_event
   is-at-3 = c.read_event-e.ensures ∙ back_read l₀-at-3 c.args.count fit-at-3 room-at-3 (rows_of c.loop-i.events) j-at-3 c.loop-i.n back-at-3 c.read_event-e.result
@@ -137,7 +136,7 @@ module _ (c : goal.After-write_event-arg-then-is_note-1) where
   back-at-4 : Backing l₀-at-4 (rows_of c.loop-i.events) c.args.count (j-at-4 + 1) c.loop-i.n
   back-at-4 =
       let e : c.loop-i.i ≡ c.loop-i.i - 1 + 1 = omega arith in
-      subst (λ (k : ℕ). Backing l₀-at-4 (rows_of c.loop-i.events) c.args.count k c.loop-i.n) e c.loop-i.inv.1
+      subst (λ (k : ℕ). Backing l₀-at-4 (rows_of c.loop-i.events) c.args.count k c.loop-i.n) e c.loop-i.invariant.1
 
   is-at-4 : c.read_event-e.result ≡ get_or (take c.args.count l₀-at-4) j-at-4 zero_event
   is-at-4 = c.read_event-e.ensures ∙ back_read l₀-at-4 c.args.count fit-at-4 room-at-4 (rows_of c.loop-i.events) j-at-4 c.loop-i.n back-at-4 c.read_event-e.result
@@ -165,7 +164,7 @@ module _ (c : goal.After-events-then-is_note-1) where
   back-at-5 : Backing l₀-at-5 (rows_of c.loop-i.events) c.args.count (j-at-5 + 1) c.loop-i.n
   back-at-5 =
       let e : c.loop-i.i ≡ c.loop-i.i - 1 + 1 = omega arith in
-      subst (λ (k : ℕ). Backing l₀-at-5 (rows_of c.loop-i.events) c.args.count k c.loop-i.n) e c.loop-i.inv.1
+      subst (λ (k : ℕ). Backing l₀-at-5 (rows_of c.loop-i.events) c.args.count k c.loop-i.n) e c.loop-i.invariant.1
 
   is-at-5 : c.read_event-e.result ≡ get_or (take c.args.count l₀-at-5) j-at-5 zero_event
   is-at-5 = c.read_event-e.ensures ∙ back_read l₀-at-5 c.args.count fit-at-5 room-at-5 (rows_of c.loop-i.events) j-at-5 c.loop-i.n back-at-5 c.read_event-e.result
@@ -190,7 +189,7 @@ module _ (c : goal.Else-is_note) where
   back-at-6 : Backing l₀-at-6 (rows_of c.loop-i.events) c.args.count (j-at-6 + 1) c.loop-i.n
   back-at-6 =
       let e : c.loop-i.i ≡ c.loop-i.i - 1 + 1 = omega arith in
-      subst (λ (k : ℕ). Backing l₀-at-6 (rows_of c.loop-i.events) c.args.count k c.loop-i.n) e c.loop-i.inv.1
+      subst (λ (k : ℕ). Backing l₀-at-6 (rows_of c.loop-i.events) c.args.count k c.loop-i.n) e c.loop-i.invariant.1
 
   is-at-6 : c.read_event-e.result ≡ get_or (take c.args.count l₀-at-6) j-at-6 zero_event
   is-at-6 = c.read_event-e.ensures ∙ back_read l₀-at-6 c.args.count fit-at-6 room-at-6 (rows_of c.loop-i.events) j-at-6 c.loop-i.n back-at-6 c.read_event-e.result
@@ -215,7 +214,7 @@ module _ (c : goal.After-write_event-arg-else-is_note-1) where
   back-at-7 : Backing l₀-at-7 (rows_of c.loop-i.events) c.args.count (j-at-7 + 1) c.loop-i.n
   back-at-7 =
       let e : c.loop-i.i ≡ c.loop-i.i - 1 + 1 = omega arith in
-      subst (λ (k : ℕ). Backing l₀-at-7 (rows_of c.loop-i.events) c.args.count k c.loop-i.n) e c.loop-i.inv.1
+      subst (λ (k : ℕ). Backing l₀-at-7 (rows_of c.loop-i.events) c.args.count k c.loop-i.n) e c.loop-i.invariant.1
 
   is-at-7 : c.read_event-e.result ≡ get_or (take c.args.count l₀-at-7) j-at-7 zero_event
   is-at-7 = c.read_event-e.ensures ∙ back_read l₀-at-7 c.args.count fit-at-7 room-at-7 (rows_of c.loop-i.events) j-at-7 c.loop-i.n back-at-7 c.read_event-e.result
@@ -243,7 +242,7 @@ module _ (c : goal.After-events-else-is_note-1) where
   back-at-8 : Backing l₀-at-8 (rows_of c.loop-i.events) c.args.count (j-at-8 + 1) c.loop-i.n
   back-at-8 =
       let e : c.loop-i.i ≡ c.loop-i.i - 1 + 1 = omega arith in
-      subst (λ (k : ℕ). Backing l₀-at-8 (rows_of c.loop-i.events) c.args.count k c.loop-i.n) e c.loop-i.inv.1
+      subst (λ (k : ℕ). Backing l₀-at-8 (rows_of c.loop-i.events) c.args.count k c.loop-i.n) e c.loop-i.invariant.1
 
   is-at-8 : c.read_event-e.result ≡ get_or (take c.args.count l₀-at-8) j-at-8 zero_event
   is-at-8 = c.read_event-e.ensures ∙ back_read l₀-at-8 c.args.count fit-at-8 room-at-8 (rows_of c.loop-i.events) j-at-8 c.loop-i.n back-at-8 c.read_event-e.result
@@ -305,14 +304,14 @@ write_event-requires c =
 
 pub write_event-requires-then-is_note : goal.write_event-requires-then-is_note
 write_event-requires-then-is_note c =
-    omega (arith, (note-at-4 c (is-a-note-at-3 c)).0, within-at-4 c, rows_at-at-3 c, same_rows c.write_event.new.0 c.loop-i.events c.write_event.auto.0)
+    omega (arith, (note-at-4 c (is-a-note-at-3 c)).0, within-at-4 c, rows_at-at-3 c, same_rows c.write_event.new.events c.loop-i.events c.write_event.auto.events)
 
 pub loop-i-smaller-then-is_note : goal.loop-i-smaller-then-is_note
 loop-i-smaller-then-is_note c = omega arith
 
 pub loop-i-preserved-then-is_note : goal.loop-i-preserved-then-is_note
 loop-i-preserved-then-is_note c = (
-  c.write_event-then-is_note.auto.0 ∙ c.write_event.auto.0 ∙ c.loop-i.invariant.0,
+  c.write_event-then-is_note.auto.events ∙ c.write_event.auto.events ∙ c.loop-i.invariant.0,
   subst (λ (l : List Event). Backing (l₀-at-5 c) l c.args.count (j-at-5 c) (c.loop-i.n - 2))
       (sym (c.write_event-then-is_note.ensures ∙ two (rows_of c.loop-i.events) _ (c.loop-i.n - 2) (c.loop-i.n - 2 + 1) c.read_event-e.result _ _ c.off_of.ensures c.write_event.ensures))
       (note-at-5 c (is-a-note-at-4 c)).1,
@@ -330,7 +329,7 @@ loop-i-smaller c = omega arith
 
 pub loop-i-preserved : goal.loop-i-preserved
 loop-i-preserved c = (
-  c.write_event-else-is_note.auto.0 ∙ c.loop-i.invariant.0,
+  c.write_event-else-is_note.auto.events ∙ c.loop-i.invariant.0,
   subst (λ (l : List Event). Backing (l₀-at-8 c) l c.args.count (j-at-8 c) (c.loop-i.n - 1))
       (sym c.write_event-else-is_note.ensures)
       (plain-at-8 c (is-no-note-at-3 c)).1,

@@ -1,10 +1,9 @@
 -- `split_into` meets its contract: the first i events stand, with their ends, at the front of `out` (`Filling`), and what
 -- is to come finds room, since it is no more than what comes of all.
-use borrow.Author.Rules.{rules}
 use mathlib.Core.Bool.{true}
 use mathlib.Core.Path.{◌≡◌, refl, sym, ap, ◌∙◌, subst}
 use mathlib.Core.List.{List}
-use Prim.Native.Nat.{ℕ, ◌+◌, ◌-◌, ◌≤◌, ◌<◌}
+use Prim.Native.Nat.{ℕ, ◌+◌, ◌≤◌, ◌<◌}
 use native.Mathlib.Omega.{arith}
 use lib.ListN.{length, set, take}
 use Rattle.laws.proofs.Every.{all-below}
@@ -39,7 +38,7 @@ module _ (c : goal.After-write_event-arg-1) where
   more = rises (rows_of c.args.events.now) c.loop-i.i (omega arith)
 
   here : c.loop-i.n < length (rows_of c.args.out.now)
-  here = omega (arith, room, more, c.loop-i.inv.2.counted)
+  here = omega (arith, room, more, c.loop-i.invariant.2.counted)
 
 -- after the step at i there is no more than what comes of all, for which there is room
 module _ (c : goal.After-out-1) where
@@ -50,7 +49,7 @@ module _ (c : goal.After-out-1) where
   more-at-2 = rises (rows_of c.args.events.now) c.loop-i.i (omega arith)
 
   here-at-2 : c.loop-i.n < length (rows_of c.args.out.now)
-  here-at-2 = omega (arith, room-at-2, more-at-2, c.loop-i.inv.2.counted)
+  here-at-2 = omega (arith, room-at-2, more-at-2, c.loop-i.invariant.2.counted)
 
 -- after the step at i there is no more than what comes of all, for which there is room
 module _ (c : goal.After-write_event-arg-then-is_note-1) where
@@ -71,7 +70,7 @@ module _ (c : goal.After-off_of) where
       omega (
         arith,
         room-at-4,
-        count-note (rows_of c.args.events.now) c.loop-i.i c.loop-i.n (omega arith) c.loop-i.inv.2.counted c.read_event-e.result c.read_event-e.ensures t,
+        count-note (rows_of c.args.events.now) c.loop-i.i c.loop-i.n (omega arith) c.loop-i.invariant.2.counted c.read_event-e.result c.read_event-e.ensures t,
       )
 
   -- the event read may be stored-at-4
@@ -91,14 +90,14 @@ module _ (c : goal.After-out-then-is_note-1) where
   more-at-5 = rises (rows_of c.args.events.now) c.loop-i.i (omega arith)
 
   here-at-5 : c.loop-i.n < length (rows_of c.args.out.now)
-  here-at-5 = omega (arith, room-at-5, more-at-5, c.loop-i.inv.2.counted)
+  here-at-5 = omega (arith, room-at-5, more-at-5, c.loop-i.invariant.2.counted)
 
   further-at-5 : is_note c.read_event-e.result ≡ true → c.loop-i.n + 1 < length (rows_of c.args.out.now)
   further-at-5 t =
       omega (
         arith,
         room-at-5,
-        count-note (rows_of c.args.events.now) c.loop-i.i c.loop-i.n (omega arith) c.loop-i.inv.2.counted c.read_event-e.result c.read_event-e.ensures t,
+        count-note (rows_of c.args.events.now) c.loop-i.i c.loop-i.n (omega arith) c.loop-i.invariant.2.counted c.read_event-e.result c.read_event-e.ensures t,
       )
 
   -- the event read may be stored-at-5
@@ -118,7 +117,7 @@ module _ (c : goal.Else-is_note) where
   more-at-6 = rises (rows_of c.args.events.now) c.loop-i.i (omega arith)
 
   here-at-6 : c.loop-i.n < length (rows_of c.args.out.now)
-  here-at-6 = omega (arith, room-at-6, more-at-6, c.loop-i.inv.2.counted)
+  here-at-6 = omega (arith, room-at-6, more-at-6, c.loop-i.invariant.2.counted)
 
 pub loop-i-init : goal.loop-i-init
 loop-i-init c = (omega arith, refl, fill_none (rows_of c.args.events.now) (rows_of c.args.out.now))
@@ -138,7 +137,7 @@ off_of-requires c =
 
 pub write_event-requires-then-is_note : goal.write_event-requires-then-is_note
 write_event-requires-then-is_note c =
-    let l = same_rows c.write_event.new.0 c.loop-i.out c.write_event.auto.0 in
+    let l = same_rows c.write_event.new.events c.loop-i.out c.write_event.auto.events in
     omega (arith, further-at-4 c (sym c.is_note.ensures ∙ c.if-is_note.true), rows_at-at-2 c)
 
 pub overflow_add-n-then-is_note : goal.overflow_add-n-then-is_note
@@ -152,7 +151,7 @@ pub loop-i-preserved-then-is_note : goal.loop-i-preserved-then-is_note
 loop-i-preserved-then-is_note c =
     let t = sym c.is_note.ensures ∙ c.if-is_note.true in (
       omega arith,
-      c.write_event-then-is_note.auto.0 ∙ c.write_event.auto.0 ∙ c.loop-i.invariant.1,
+      c.write_event-then-is_note.auto.events ∙ c.write_event.auto.events ∙ c.loop-i.invariant.1,
       subst (λ (l : List Event). Filling (rows_of c.args.events.now) (rows_of c.args.out.now) l (c.loop-i.i + 1) (c.loop-i.n + 1 + 1))
           (sym (c.write_event-then-is_note.ensures ∙ two (rows_of c.loop-i.out) _ c.loop-i.n (c.loop-i.n + 1) c.read_event-e.result _ _ c.off_of.ensures c.write_event.ensures))
           (fill-note (rows_of c.args.events.now) (rows_of c.args.out.now) (rows_of c.loop-i.out) c.loop-i.i c.loop-i.n c.loop-i.invariant.2 (omega arith)
@@ -165,7 +164,7 @@ loop-i-smaller c = omega arith
 pub loop-i-preserved : goal.loop-i-preserved
 loop-i-preserved c = (
   omega arith,
-  c.write_event.auto.0 ∙ c.loop-i.invariant.1,
+  c.write_event.auto.events ∙ c.loop-i.invariant.1,
   subst (λ (l : List Event). Filling (rows_of c.args.events.now) (rows_of c.args.out.now) l (c.loop-i.i + 1) (c.loop-i.n + 1))
       (sym c.write_event.ensures)
       (fill-plain (rows_of c.args.events.now) (rows_of c.args.out.now) (rows_of c.loop-i.out) c.loop-i.i c.loop-i.n c.loop-i.invariant.2 (omega arith)

@@ -1,6 +1,5 @@
 -- `split_note_off` meets its contract: the refusal's number decides (Refusing), and a split that is not refused may lean on
 -- what was tested.
-use borrow.Author.Rules.{rules}
 use mathlib.Core.Path.{sym, ◌∙◌}
 use native.Mathlib.Omega.{arith}
 use lib.ListN.{length}
@@ -22,10 +21,10 @@ pub split_into-n-requires : goal.split_into-n-requires
 split_into-n-requires c =
     let s = c.args in
     let t = tested c in
-    ((list-within s.events.now s.count t.list, t.events), omega (arith, t.room, length-rows_of s.out.now))
+    record { count_in_bounds = (list-within s.events.now s.count t.list, t.events); count_in_bounds_2 = omega (arith, t.room, length-rows_of s.out.now) }
 
 pub returns : goal.returns
 returns c =
     let s = c.args in
     done-is (length s.store.now) s.events.now s.count s.out.now 0 _ c.split_refusal-code.ensures c.if-code-ne0.false
-    c.split_into-n.result c.split_into-n.ensures.0 c.split_into-n.new.1.1.0 c.split_into-n.auto.1.1.0 c.split_into-n.ensures.1
+    c.split_into-n.result c.split_into-n.ensures.0 c.split_into-n.new.out c.split_into-n.auto.out c.split_into-n.ensures.1

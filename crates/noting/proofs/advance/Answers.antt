@@ -1,6 +1,5 @@
 -- `advance`: a place is at most a list's count.
 use native.Mathlib.Omega.{arith}
-use borrow.Author.Rules.{rules}
 use Rattle.noting.specs.Lists.{advanced}
 use Rattle.noting.proofs.Rules.{sound, place-few}
 use Rattle.noting.proofs.advance.Goals as goal

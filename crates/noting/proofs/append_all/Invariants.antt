@@ -1,13 +1,9 @@
 -- `append_all`: the loop is proofs/Appending's; here it meets the slice and the array.
-use mathlib.Core.Path.{◌≡◌, refl, ◌∙◌}
-use Prim.Native.Nat.{◌-◌, ◌<◌}
-use native.Mathlib.Omega.{arith}
-use borrow.Author.Rules.{rules}
+use mathlib.Core.Path.{◌≡◌}
+use Prim.Native.Nat.{◌-◌}
 use lib.ListN.{length}
-use Rattle.laws.proofs.Reading.{length-told}
 use Rattle.events.specs.Events.{zero_event}
 use Rattle.eventlist.specs.Rows.{rows_of}
-use Rattle.eventlist.proofs.EventRows.{same_rows}
 use Rattle.noting.proofs.Appending as A
 use Rattle.noting.proofs.append_all.Given as goal
 

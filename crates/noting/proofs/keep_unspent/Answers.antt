@@ -1,7 +1,7 @@
 -- `keep_unspent`: the loop is proofs/Closing's, where the array is the list of its records itself.
 use mathlib.Core.Path.{◌≡◌, ap₂}
 use mathlib.Core.List.{List, []}
-use Prim.Native.Nat.{ℕ, ◌-◌, ◌≤◌, ◌<◌}
+use Prim.Native.Nat.{ℕ, ◌≤◌, ◌<◌}
 use native.Mathlib.Omega.{arith}
 use borrow.Author.Rules.{rules}
 use lib.IntN.{pos}

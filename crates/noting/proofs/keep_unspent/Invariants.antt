@@ -1,13 +1,5 @@
 -- `keep_unspent`: the loop is proofs/Closing's, where the array is the list of its records itself.
-use mathlib.Core.Path.{◌≡◌, ap₂}
-use mathlib.Core.List.{List, []}
-use Prim.Native.Nat.{ℕ, ◌-◌, ◌≤◌, ◌<◌}
-use native.Mathlib.Omega.{arith}
-use borrow.Author.Rules.{rules}
-use lib.IntN.{pos}
-use lib.ListN.{length}
-use Rattle.laws.proofs.Reading.{length-told}
-use Rattle.tables.specs.declared.OnNoteValues.{OnNoteValues}
+use Prim.Native.Nat.{◌-◌}
 use Rattle.tables.specs.Tables.{no_note}
 use Rattle.noting.specs.Lists.{spent}
 use Rattle.noting.proofs.Closing as C

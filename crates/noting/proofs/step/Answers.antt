@@ -1,5 +1,4 @@
 -- `step`: whether the write fits chooses the list that is left.
-use borrow.Author.Rules.{rules}
 use Rattle.noting.specs.Runs.{step_of}
 use Rattle.noting.proofs.step.Goals as goal
 

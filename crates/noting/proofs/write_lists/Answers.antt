@@ -4,7 +4,6 @@ use mathlib.Core.Path.{◌≡◌, sym, ap, ◌∙◌}
 use mathlib.Core.Bool.{Bool, true, ◌&&◌}
 use Prim.Native.Nat.{ℕ, ◌+◌}
 use native.Mathlib.Omega.{arith}
-use borrow.Author.Rules.{rules}
 use lib.IntN.{ℤ}
 use lib.ListN.{length, take}
 use lib.Seq.{take-append_seam}
@@ -19,7 +18,6 @@ use Rattle.budget.specs.declared.Budget.{Budget}
 use Rattle.budget.specs.Budgets.{ok_budget}
 use Rattle.events.specs.Events.{zero_event}
 use Rattle.eventlist.specs.Rows.{rows_of, events_of}
-use Rattle.eventlist.specs.Sound.{is_list}
 use Rattle.eventlist.proofs.EventRows.{length-rows_of, determined}
 use Rattle.eventlist.proofs.Sound.{list-whole, list-within}
 use Rattle.tables.specs.declared.NoteTable.{NoteTable}

@@ -3,12 +3,12 @@ use mathlib.Core.Path.{ap, ap₂, ◌∙◌}
 use mir.Syntax.{w64}
 use mir.Val.{SFits}
 use mir.Facts.{to_z-of_z}
-use borrow.Author.Rules.{rules, sfits_of}
+use borrow.Author.Rules.{rules}
 use Rattle.layers.specs.Calls.{apply_v_sub}
 use Rattle.playing.specs.Calls.{summed_up}
 use Rattle.playing.proofs.apply_v_sub.Goals as goal
 
 pub returns : goal.returns
 returns c =
-    let f : SFits w64 c.args.track.timepos = sfits_of c.struct_told-1.given.1.0.1 in
+    let f : SFits w64 c.args.track.timepos = search rules in
     c.summed_up.ensures ∙ ap (summed_up c.args.track) (c.apply_v_sub-sum.ensures ∙ ap₂ (apply_v_sub c.args.track.layers) (to_z-of_z f) (to_z-of_z c.ranges.velocity))

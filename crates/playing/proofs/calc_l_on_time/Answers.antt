@@ -3,7 +3,6 @@ use mathlib.Core.Path.{ap, ◌∙◌}
 use mir.Facts.{to_z-of_z}
 use Rattle.playing.specs.Which.{span}
 use Rattle.playing.specs.Calls.{value_on_time}
-use borrow.Author.Rules.{rules}
 use Rattle.playing.proofs.calc_l_on_time.Goals as goal
 
 pub returns : goal.returns

@@ -2,7 +2,7 @@
 use mir.Syntax.{w32}
 use mir.Val.{SFits}
 use mir.Facts.{to_z-of_z}
-use borrow.Author.Rules.{rules, sfits_of}
+use borrow.Author.Rules.{rules}
 use Rattle.playing.proofs.Leaving.{settled-on-note, velocity-left}
 use Rattle.playing.proofs.calc_v_on_note.Goals as goal
 
@@ -10,6 +10,7 @@ pub returns : goal.returns
 returns c =
     let a = c.args.track in
     let e = settled-on-note a a.v c.settled-left.ensures c.track_ok.ensures c.calc_on_note-taken.ensures (to_z-of_z c.ranges.def) in
-    let f : SFits w32 c.settled-left.result.value = sfits_of c.struct_told-2-1.given.1.0.1 in
-    let g : SFits w32 a.velocity = sfits_of c.struct_told-1.given.1.1.1.1.1.0.1 in
-    rw (to_z-of_z f) (velocity-left a c.args.def c.settled-left.result c.value_left.result e (rw (to_z-of_z g) at c.value_left.ensures))
+    let f : SFits w32 c.settled-left.result.value = search rules in
+    let g : SFits w32 a.velocity = search rules in
+    let h : SFits w32 c.value_left.result = search rules in
+    rw (to_z-of_z f, to_z-of_z h) (velocity-left a c.args.def c.settled-left.result c.value_left.result e (rw (to_z-of_z g) at c.value_left.ensures))

@@ -1,6 +1,5 @@
 -- `clear_param_max`: the parameter's own call, and the track.
 use mathlib.Core.Path.{ap, ◌∙◌}
-use borrow.Author.Rules.{rules}
 use Rattle.params.specs.Calls.{clear_max}
 use Rattle.playing.specs.Calls.{on_param}
 use Rattle.playing.proofs.clear_param_max.Goals as goal

@@ -1,6 +1,5 @@
 -- `clear_param_reserve`: the parameter's own call, and the track.
 use mathlib.Core.Path.{ap, ◌∙◌}
-use borrow.Author.Rules.{rules}
 use Rattle.params.specs.Calls.{clear_reserve}
 use Rattle.playing.specs.Calls.{on_param}
 use Rattle.playing.proofs.clear_param_reserve.Goals as goal

@@ -1,7 +1,6 @@
 -- `layers_set` asks, and stores the layers.
 use mathlib.Core.Path.{◌≡◌, ap, ◌∙◌}
 use mathlib.Core.Bool.{Bool}
-use borrow.Author.Rules.{rules}
 use Rattle.state.specs.Tests.{ok_track}
 use Rattle.state.proofs.Answers.{refused-by, done-by}
 use Rattle.playing.specs.Calls.{asked, on_layers}

@@ -1,7 +1,6 @@
 -- `param_set` asks, and stores the parameter.
 use mathlib.Core.Path.{◌≡◌, ap, ◌∙◌}
 use mathlib.Core.Bool.{Bool, ◌&&◌}
-use borrow.Author.Rules.{rules}
 use Rattle.state.specs.Calls.{answer}
 use Rattle.state.proofs.Answers.{refused-by, done-by}
 use Rattle.playing.specs.Which.{is_param}

@@ -1,7 +1,6 @@
 -- `set_param_max`: the parameter's own call, and the track.
 use mathlib.Core.Path.{ap, ap₂, ◌∙◌}
 use mir.Facts.{to_z-of_z}
-use borrow.Author.Rules.{rules}
 use Rattle.params.specs.Calls.{set_max}
 use Rattle.playing.specs.Calls.{on_param}
 use Rattle.playing.proofs.set_param_max.Goals as goal

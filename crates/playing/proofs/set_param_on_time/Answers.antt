@@ -3,7 +3,7 @@ use mathlib.Core.Path.{ap, ap₂, ◌∙◌}
 use mir.Syntax.{w64}
 use mir.Val.{SFits}
 use mir.Facts.{to_z-of_z}
-use borrow.Author.Rules.{rules, sfits_of}
+use borrow.Author.Rules.{rules}
 use lib.IntN.{ℤ}
 use Rattle.params.specs.declared.NoteParam.{NoteParam}
 use Rattle.params.specs.Calls.{set_on_time}
@@ -12,5 +12,5 @@ use Rattle.playing.proofs.set_param_on_time.Goals as goal
 
 pub returns : goal.returns
 returns c =
-    let f : SFits w64 c.args.track.timepos = sfits_of c.struct_told-1.given.1.0.1 in
+    let f : SFits w64 c.args.track.timepos = search rules in
     c.param_set.ensures ∙ ap (on_param c.args.which c.args.track) (c.set_on_time-after.ensures ∙ ap₂ (λ (x : NoteParam) (t : ℤ). set_on_time x t c.args.values.now) c.param_at-param.ensures (to_z-of_z f))

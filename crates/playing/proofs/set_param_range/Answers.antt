@@ -1,7 +1,6 @@
 -- `set_param_range`: the parameter's own call, and the track.
 use mathlib.Core.Path.{ap, ◌∙◌}
 use mir.Facts.{to_z-of_z}
-use borrow.Author.Rules.{rules}
 use Rattle.params.specs.Calls.{set_range}
 use Rattle.playing.specs.Calls.{on_param}
 use Rattle.playing.proofs.Answers.{ap₃}

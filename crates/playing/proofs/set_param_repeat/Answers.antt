@@ -1,6 +1,5 @@
 -- `set_param_repeat`: the parameter's own call, and the track.
 use mathlib.Core.Path.{ap, ◌∙◌}
-use borrow.Author.Rules.{rules}
 use Rattle.params.specs.declared.NoteParam.{NoteParam}
 use Rattle.params.specs.Calls.{set_repeat}
 use Rattle.playing.specs.Calls.{on_param}

@@ -1,6 +1,5 @@
 -- `set_v_sub_on_note`: the layers' own call, and the track.
 use mathlib.Core.Path.{ap, ◌∙◌}
-use borrow.Author.Rules.{rules}
 use Rattle.playing.specs.Calls.{on_layers}
 use Rattle.playing.proofs.set_v_sub_on_note.Goals as goal
 

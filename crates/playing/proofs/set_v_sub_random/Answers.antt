@@ -1,7 +1,6 @@
 -- `set_v_sub_random`: the layers' own call, and the track.
 use mathlib.Core.Path.{ap, ◌∙◌}
 use mir.Facts.{to_z-of_z}
-use borrow.Author.Rules.{rules}
 use Rattle.layers.specs.Calls.{set_v_sub_random}
 use Rattle.playing.specs.Calls.{on_layers}
 use Rattle.playing.proofs.set_v_sub_random.Goals as goal

@@ -2,7 +2,7 @@
 use mir.Syntax.{w32}
 use mir.Val.{SFits}
 use mir.Facts.{to_z-of_z}
-use borrow.Author.Rules.{rules, sfits_of}
+use borrow.Author.Rules.{rules}
 use Rattle.playing.proofs.Leaving.{unsettled, settling}
 use Rattle.playing.proofs.settled.Goals as goal
 
@@ -11,5 +11,5 @@ returns-then-code-ne0 c = unsettled _ _ _ c.asked-code.ensures c.if-code-ne0.tru
 
 pub returns : goal.returns
 returns c =
-    let f : SFits w32 c.args.taken.value = sfits_of c.struct_told-1.given.1.0.1 in
+    let f : SFits w32 c.args.taken.value = search rules in
     rw (to_z-of_z f) (settling _ _ _ c.asked-code.ensures c.if-code-ne0.false)

@@ -1,5 +1,4 @@
 -- `step_left` chooses by the test.
-use borrow.Author.Rules.{rules}
 use mathlib.Core.Path.{sym, ◌∙◌}
 use Rattle.playing.proofs.step_left.Goals as goal
 

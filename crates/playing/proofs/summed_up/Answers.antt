@@ -4,7 +4,7 @@ use mathlib.Core.Bool.{Bool}
 use mir.Syntax.{w64}
 use mir.Val.{SFits}
 use mir.Facts.{to_z-of_z}
-use borrow.Author.Rules.{rules, sfits_of}
+use borrow.Author.Rules.{rules}
 use Rattle.state.specs.Tests.{ok_track}
 use Rattle.playing.specs.Calls.{asked}
 use Rattle.playing.proofs.Answers.{unsummed, summing}
@@ -24,5 +24,5 @@ returns-then-code-ne0 c = unsummed _ _ (code_is c) c.if-code-ne0.true
 pub returns : goal.returns
 returns c =
     let a = c.args in
-    let f : SFits w64 a.sum.value = sfits_of c.struct_told-1.given.1.0.1 in
+    let f : SFits w64 a.sum.value = search rules in
     rw (to_z-of_z f) (summing _ _ (code_is-at-2 c) c.if-code-ne0.false)

@@ -4,7 +4,7 @@ use mathlib.Core.Bool.{Bool, ◌&&◌}
 use mir.Syntax.{w32}
 use mir.Val.{SFits}
 use mir.Facts.{to_z-of_z}
-use borrow.Author.Rules.{rules, sfits_of}
+use borrow.Author.Rules.{rules}
 use Rattle.playing.specs.Which.{is_param}
 use Rattle.playing.specs.Calls.{asked, param_asked, time_taken}
 use Rattle.playing.proofs.Answers.{unvalued, valued}
@@ -26,5 +26,5 @@ pub returns : goal.returns
 unfolding time_taken
 returns c =
     let a = c.args in
-    let f : SFits w32 a.taken.value = sfits_of c.struct_told-1.given.1.0.1 in
+    let f : SFits w32 a.taken.value = search rules in
     rw (to_z-of_z f, c.with_param-left.ensures) (valued (code_is-at-2 c) _ _ _ c.if-code-ne0.false)

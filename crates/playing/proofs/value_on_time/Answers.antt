@@ -3,7 +3,7 @@ use mathlib.Core.Path.{ap, ◌∙◌}
 use mir.Syntax.{w64}
 use mir.Val.{SFits}
 use mir.Facts.{to_z-of_z}
-use borrow.Author.Rules.{rules, sfits_of}
+use borrow.Author.Rules.{rules}
 use Rattle.params.specs.Calls.{calc_on_time}
 use Rattle.playing.specs.Calls.{time_taken}
 use Rattle.playing.proofs.Answers.{ap₃}
@@ -11,5 +11,5 @@ use Rattle.playing.proofs.value_on_time.Goals as goal
 
 pub returns : goal.returns
 returns c =
-    let f : SFits w64 c.args.track.timepos = sfits_of c.struct_told-1.given.1.0.1 in
+    let f : SFits w64 c.args.track.timepos = search rules in
     c.time_taken.ensures ∙ ap (time_taken c.args.which c.args.track) (c.calc_on_time-taken.ensures ∙ ap₃ calc_on_time c.param_at-param.ensures (to_z-of_z f) (to_z-of_z c.ranges.def))

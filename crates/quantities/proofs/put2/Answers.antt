@@ -1,7 +1,6 @@
 -- `put2`: two groups are one, and one behind it.
 use mathlib.Core.List.{[], ◌∷◌}
 use native.Mathlib.Omega.{arith}
-use borrow.Author.Rules.{rules}
 use Rattle.text.proofs.Laying.{put-behind}
 use Rattle.quantities.specs.Quantities.{followed, group, lowest1}
 use Rattle.quantities.proofs.put2.Goals as goal

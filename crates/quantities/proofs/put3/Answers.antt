@@ -1,7 +1,6 @@
 -- `put3`: three groups are one, and two behind it.
 use mathlib.Core.List.{[], ◌∷◌}
 use native.Mathlib.Omega.{arith}
-use borrow.Author.Rules.{rules}
 use Rattle.text.proofs.Laying.{put-behind}
 use Rattle.quantities.specs.Quantities.{followed, group, lowest2}
 use Rattle.quantities.proofs.put3.Goals as goal

@@ -1,7 +1,6 @@
 -- `put4`: four groups are one, and three behind it.
 use mathlib.Core.List.{[], ◌∷◌}
 use native.Mathlib.Omega.{arith}
-use borrow.Author.Rules.{rules}
 use Rattle.text.proofs.Laying.{put-behind}
 use Rattle.quantities.specs.Quantities.{followed, group, lowest3}
 use Rattle.quantities.proofs.put4.Goals as goal

@@ -1,5 +1,4 @@
 -- `put_quantity`: each case of the definition by the function that puts so many groups.
-use borrow.Author.Rules.{rules}
 use Rattle.quantities.proofs.Groups.{has1, has2, has3, has4}
 use Rattle.quantities.proofs.put_quantity.Goals as goal
 

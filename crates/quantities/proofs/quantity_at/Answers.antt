@@ -1,10 +1,10 @@
 -- What is read from here on, behind `used` bytes that say `value`, is what is read from the start.
 use mathlib.Core.Path.{◌≡◌, sym, ap, ◌∙◌}
-use Prim.Native.Nat.{ℕ, suc, ◌+◌, ◌*◌, ◌-◌, ◌^◌, ◌≤◌, ◌<◌}
+use Prim.Native.Nat.{ℕ, suc, ◌+◌, ◌*◌, ◌-◌}
 use native.Mathlib.Omega.{arith}
 use borrow.Author.Rules.{rules}
 use lib.ListN.{drop}
-use Rattle.quantities.specs.Quantities.{quantity_bytes, met, quantity_from, quantity_in}
+use Rattle.quantities.specs.Quantities.{quantity_bytes, met, quantity_from}
 use Rattle.quantities.proofs.Groups.{grows, small, cut_short, used-up, at_last, at_more}
 use Rattle.quantities.proofs.quantity_at.Goals as goal
 

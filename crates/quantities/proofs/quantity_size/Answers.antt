@@ -1,6 +1,5 @@
 -- `quantity_size`: one byte, and one for each test that holds (`bytes_counted`).
 use native.Mathlib.Omega.{arith}
-use borrow.Author.Rules.{rules}
 use Rattle.quantities.proofs.Groups.{bytes_counted}
 use Rattle.quantities.proofs.quantity_size.Goals as goal
 

@@ -1,5 +1,4 @@
 -- `behind` meets its contract: what is kept counts one or nothing, and is late past the latest time (Kept).
-use borrow.Author.Rules.{rules}
 use mathlib.Core.Bool.{Bool, ◌||◌}
 use mathlib.Core.Path.{◌≡◌, sym, ap, ap₂, ◌∙◌}
 use Prim.Native.Nat.{ℕ, ◌+◌}

@@ -1,5 +1,4 @@
 -- `end_at` meets its contract: the length at the place is 0, and the last byte (Places).
-use borrow.Author.Rules.{rules}
 use mathlib.Core.Path.{◌≡◌, refl, sym, ◌∙◌}
 use Prim.Native.Nat.{ℕ, ◌+◌, ◌-◌}
 use lib.ListN.{length, drop, length-drop}

@@ -1,5 +1,4 @@
 -- `event_at` meets its contract: the gap at the place, and what stands behind it (Places).
-use borrow.Author.Rules.{rules}
 use mathlib.Core.Bool.{false, not}
 use mathlib.Core.Path.{◌≡◌, refl, ap, sym, ◌∙◌}
 use Prim.Native.Nat.{ℕ, ◌+◌, ◌≤◌, ◌<◌}

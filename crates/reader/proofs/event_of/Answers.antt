@@ -1,5 +1,4 @@
 -- `event_of` meets its contract: each status that is kept has its event (Kept).
-use borrow.Author.Rules.{rules}
 use Rattle.reader.proofs.Kept.{tells-end, tells-note, tells-control, tells-voice, tells-bend}
 use Rattle.reader.proofs.event_of.Goals as goal
 

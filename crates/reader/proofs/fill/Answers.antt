@@ -1,7 +1,6 @@
 -- `fill` meets its contract: what is left, laid behind what was put, makes the list that is promised (Passes).
 use borrow.Author.Rules.{rules}
-use mathlib.Core.Bool.{Bool, cond}
-use mathlib.Core.Path.{◌≡◌, refl, sym, ap, ◌∙◌}
+use mathlib.Core.Path.{◌≡◌, refl}
 use mathlib.Core.List.{List}
 use Prim.Native.Nat.{ℕ, ◌+◌, ◌≤◌, ◌<◌}
 use lib.ListN.{length, drop}

@@ -1,6 +1,5 @@
 -- `look_over` meets its contract: what is counted and what is left make what is answered (Passes).
-use borrow.Author.Rules.{rules}
-use mathlib.Core.Path.{◌≡◌, ap, ◌∙◌}
+use mathlib.Core.Path.{ap, ◌∙◌}
 use Prim.Native.Nat.{ℕ}
 use Rattle.reader.specs.Steps.{tells}
 use Rattle.reader.proofs.Passes.{counts-as, place-begun, place-on, shorter, room-on, outline-begun, outline-on, outline-ends}

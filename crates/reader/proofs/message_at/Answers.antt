@@ -1,5 +1,4 @@
 -- `message_at` meets its contract, by the byte that stands at the place and by whether the status has one (Places).
-use borrow.Author.Rules.{rules}
 use mathlib.Core.Path.{◌≡◌, ap, sym, ◌∙◌}
 use Prim.Native.Nat.{ℕ, ◌+◌}
 use lib.ListN.{get_or, drop}

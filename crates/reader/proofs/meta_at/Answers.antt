@@ -1,5 +1,4 @@
 -- `meta_at` meets its contract, by the type that stands at the place (Places).
-use borrow.Author.Rules.{rules}
 use mathlib.Core.Path.{◌≡◌, ap, sym, ◌∙◌}
 use Prim.Native.Nat.{ℕ, ◌+◌}
 use lib.ListN.{get_or, drop}

@@ -1,5 +1,4 @@
 -- `note` meets its contract, by its velocity.
-use borrow.Author.Rules.{rules}
 use mathlib.Core.Path.{◌∙◌}
 use borrow.Author.Tests.{ne_eqb}
 use Rattle.reader.proofs.note.Goals as goal

@@ -1,5 +1,4 @@
 -- `plain` meets its contract: no number is near a sign.
-use borrow.Author.Rules.{rules}
 use Prim.Native.Nat.{◌%◌}
 use native.Mathlib.Omega.{arith}
 use mir.Facts.{to_z-of_z, to_z_pos}

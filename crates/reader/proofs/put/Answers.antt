@@ -1,5 +1,4 @@
 -- `put` meets its contract: one event is a store, and none changes nothing (Kept).
-use borrow.Author.Rules.{rules}
 use mathlib.Core.Path.{◌≡◌, sym, ap, ◌∙◌}
 use mathlib.Core.Bool.{Bool, cond}
 use mathlib.Core.List.{List}

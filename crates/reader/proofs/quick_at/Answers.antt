@@ -1,5 +1,4 @@
 -- `quick_at` meets its contract: behind a gap of one byte, a message under running status or with its own (Places).
-use borrow.Author.Rules.{rules}
 use mathlib.Core.Path.{◌≡◌, ap, sym, ◌∙◌}
 use mathlib.Core.List.{List, ◌∷◌}
 use Prim.Native.Nat.{ℕ, ◌+◌, ◌<◌}

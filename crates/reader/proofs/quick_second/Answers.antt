@@ -1,9 +1,7 @@
 -- `quick_second` meets its contract: the second data byte, where the status has two (Places).
-use borrow.Author.Rules.{rules}
-use mathlib.Core.Path.{refl, ap, sym, ◌∙◌}
+use mathlib.Core.Path.{ap, sym, ◌∙◌}
 use Prim.Native.Nat.{◌+◌}
 use lib.ListN.{get_or, drop}
-use Rattle.laws.proofs.Tests.{yes}
 use Rattle.chunks.specs.Reader.{second_in}
 use Rattle.reader.specs.Reading.{kept_in}
 use Rattle.reader.specs.Steps.{tells}

@@ -1,5 +1,4 @@
 -- `step_over` meets its contract: what stands at the place is stepped over, or is too short (Places).
-use borrow.Author.Rules.{rules}
 use mathlib.Core.Path.{◌≡◌, refl, ap, sym, ◌∙◌}
 use Prim.Native.Nat.{ℕ, ◌+◌, ◌-◌}
 use native.Mathlib.Omega.{arith}

@@ -1,9 +1,8 @@
 -- `curve_at` walks the triples from the front (the law Curves); the invariant: the curve stands where what is left of it stands
 -- after what is left of the time. The measure is what is left of the triples.
 use mathlib.Core.Path.{◌≡◌, refl, sym, ap, ◌∙◌}
-use Prim.Native.Nat.{◌≤◌, ◌-◌}
 use native.Mathlib.Omega.{arith}
-use lib.ListN.{length, drop}
+use lib.ListN.{length}
 use mir.Syntax.{w32}
 use mir.Val.{SFits}
 use mir.Facts.{to_z-of_z}
@@ -13,7 +12,6 @@ use Rattle.counted.specs.Numbers.{shown}
 use Rattle.counted.specs.Curves.{triples}
 use Rattle.counted.proofs.Counted.{curve-triples}
 use Rattle.reserved.specs.declared.CurveValue.TheVariants.{At}
-use Rattle.reserved.specs.Curve.{curve_at}
 use Rattle.reserved.proofs.Curves.{over, here, on}
 use Rattle.reserved.proofs.curve_at.Goals as goal
 

@@ -3,7 +3,7 @@ use mathlib.Core.Path.{◌≡◌, sym, ap₂, ◌∙◌}
 use mir.Syntax.{w32, w64}
 use mir.Val.{SFits}
 use mir.Facts.{to_z-of_z}
-use borrow.Author.Rules.{rules, sfits_of}
+use borrow.Author.Rules.{sfits_of}
 use Rattle.counted.specs.Numbers.{shown}
 use Rattle.counted.specs.Curves.{triples}
 use Rattle.reserved.specs.declared.Since.TheVariants.{Before, Steps}
@@ -29,18 +29,18 @@ begun-at-3 c =
 
 pub returns-in_default : goal.returns-in_default
 returns-in_default c =
-    let e : since_of c.args.reserve.start c.args.timepos ≡ Before = sym (begun c) ∙ c.in_default.is.1 in
+    let e : since_of c.args.reserve.start c.args.timepos ≡ Before = sym (begun c) ∙ c.in_default.is in
     simp (to_z-of_z c.ranges.def, e)
 
 pub returns-in_default-curve_at : goal.returns-in_default-curve_at
 returns-in_default-curve_at c =
-    let e : since_of c.args.reserve.start c.args.timepos ≡ Steps c.in-Steps.steps.0.0 = sym (begun-at-2 c) ∙ c.in-Steps.steps.1 in
-    let d : curve_at (triples (shown c.args.reserve.values)) c.in-Steps.steps.0.0 ≡ Past = sym c.curve_at.ensures ∙ c.in_default-curve_at.is.1 in
+    let e : since_of c.args.reserve.start c.args.timepos ≡ Steps c.in-Steps.steps = sym (begun-at-2 c) ∙ c.in-Steps.is in
+    let d : curve_at (triples (shown c.args.reserve.values)) c.in-Steps.steps ≡ Past = sym c.curve_at.ensures ∙ c.in_default-curve_at.is in
     simp (to_z-of_z c.ranges.def, e, d, c.idle_reserve-gone.ensures)
 
 pub returns : goal.returns
 returns c =
-    let f : SFits w32 c.in-At.value.0.0 = sfits_of c.known_told-in-At-1-own.given.0.1 in
-    let e : since_of c.args.reserve.start c.args.timepos ≡ Steps c.in-Steps.steps.0.0 = sym (begun-at-3 c) ∙ c.in-Steps.steps.1 in
-    let d : curve_at (triples (shown c.args.reserve.values)) c.in-Steps.steps.0.0 ≡ At c.in-At.value.0.0 = sym c.curve_at.ensures ∙ c.in-At.value.1 in
+    let f : SFits w32 c.in-At.value = sfits_of c.in-At.known_told-in-At-1-own.given.0.1 in
+    let e : since_of c.args.reserve.start c.args.timepos ≡ Steps c.in-Steps.steps = sym (begun-at-3 c) ∙ c.in-Steps.is in
+    let d : curve_at (triples (shown c.args.reserve.values)) c.in-Steps.steps ≡ At c.in-At.value = sym c.curve_at.ensures ∙ c.in-At.is in
     simp (to_z-of_z f, e, d)

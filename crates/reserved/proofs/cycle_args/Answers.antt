@@ -3,7 +3,7 @@ use mathlib.Core.Path.{◌≡◌, refl, ap, ◌∙◌}
 use mathlib.Core.List.{List, [], ◌∷◌}
 use Prim.Native.Nat.{◌≤◌, ◌-◌}
 use native.Mathlib.Omega.{arith}
-use borrow.Author.Rules.{rules, sfits_of}
+use borrow.Author.Rules.{sfits_of}
 use borrow.Author.Tests.{lt-ltb, le-ltb}
 use lib.IntN.{ℤ, pos}
 use lib.ListN.{length, get_or, drop, length-drop}
@@ -33,7 +33,7 @@ unfolding cycle_args
 returns c =
     let v = c.args.args.now in
     let n = length-drop 1 v in
-    let h : c.Numbers-of.result ≡ numbers_of (drop 1 v) = c.Numbers-of.ensures ∙ ap numbers_of (take_all (length v - 1) (drop 1 v) (omega arith)) in
+    let h : c.numbers_of-listed.result ≡ numbers_of (drop 1 v) = c.numbers_of-listed.ensures ∙ ap numbers_of (take_all (length v - 1) (drop 1 v) (omega arith)) in
     let k : length (drop 1 v) ≤ list_limit = omega arith in
     let f : SFits w32 (get_or v 0 (pos 0)) = sfits_of c.length-1.given in
     simp (to_z-of_z f, h, le-ltb list_limit (length (drop 1 v)) k, le-ltb _ _ c.if-n-gt-LIST_LIMIT.false)

@@ -11,7 +11,7 @@ use lib.ListN.{get_or}
 use mir.Syntax.{w32, w64}
 use mir.Val.{SFits}
 use mir.Facts.{to_z-of_z}
-use borrow.Author.Rules.{rules, sfits_of}
+use borrow.Author.Rules.{sfits_of}
 use Rattle.laws.specs.Integers.{cut}
 use Rattle.numbers.specs.Limits.{list_limit}
 use Rattle.counted.proofs.Counted.{numbers-count}
@@ -51,10 +51,10 @@ every-at-2 c =
 some : (c : goal.Else-every-n) → 0 < c.args.cycle.values.count
 some c = above_zero _ (or_right (eqb c.span-every.result 0) _ c.if-every-n.false)
 
-below : (c : goal.Else-every-n) → c.in-Steps.steps.0.0 / c.span-every.result % c.args.cycle.values.count < list_limit
+below : (c : goal.Else-every-n) → c.in-Steps.steps / c.span-every.result % c.args.cycle.values.count < list_limit
 below c =
     let h = numbers-count c.args.cycle.values (cycle-values c.args.cycle c.requires.cycle_value) in
-    let k = mod-lt (c.in-Steps.steps.0.0 / c.span-every.result) (some c) in
+    let k = mod-lt (c.in-Steps.steps / c.span-every.result) (some c) in
     omega arith
 
 pub steps_since-requires : goal.steps_since-requires
@@ -65,12 +65,12 @@ steps_since-requires c =
 pub returns-in_default : goal.returns-in_default
 returns-in_default c =
     let a = c.args in
-    ap valued (not-begun a.cycle a.timepos (sym (begun c) ∙ c.in_default.is.1))
+    ap valued (not-begun a.cycle a.timepos (sym (begun c) ∙ c.in_default.is))
 
 pub returns-then-every-n : goal.returns-then-every-n
 returns-then-every-n c =
     let a = c.args in
-    ap valued (no_value a.cycle a.timepos c.in-Steps.steps.0.0 c.span-every.result (sym (begun-at-2 c) ∙ c.in-Steps.steps.1) (every c) c.if-every-n.true)
+    ap valued (no_value a.cycle a.timepos c.in-Steps.steps c.span-every.result (sym (begun-at-2 c) ∙ c.in-Steps.is) (every c) c.if-every-n.true)
 
 pub nonzero_div-i : goal.nonzero_div-i
 nonzero_div-i c = above_zero _ (or_left _ _ c.if-every-n.false)
@@ -87,7 +87,7 @@ bounds-values-i c = below c
 pub returns : goal.returns
 returns c =
     let a = c.args in
-    let k = c.in-Steps.steps.0.0 in
+    let k = c.in-Steps.steps in
     let f : SFits w32 (get_or a.cycle.values.items (k / c.span-every.result % a.cycle.values.count) (pos 0)) = sfits_of c.value-1.given in
     rw (to_z-of_z f)
-    (ap valued (a-value a.cycle a.timepos k c.span-every.result (sym (begun-at-3 c) ∙ c.in-Steps.steps.1) (every-at-2 c) c.if-every-n.false))
+    (ap valued (a-value a.cycle a.timepos k c.span-every.result (sym (begun-at-3 c) ∙ c.in-Steps.is) (every-at-2 c) c.if-every-n.false))

@@ -1,6 +1,5 @@
 -- `cycle_ok` joins the tests of a cycle's parts.
 use mir.Syntax.{w32, w64}
-use borrow.Author.Rules.{rules}
 use Rattle.laws.proofs.Tests.{is_at, both}
 use Rattle.numbers.specs.Ranges.{is_stored_time, is_length}
 use Rattle.reserved.specs.Cycle.{ok_cycle}

@@ -1,7 +1,6 @@
 -- `cycle_reserve` is its definition: the test decides it.
 use mathlib.Core.Path.{◌∙◌}
 use mir.Facts.{to_z-of_z}
-use borrow.Author.Rules.{rules}
 use borrow.Author.Tests.{eq-eqb, ne_eqb}
 use Rattle.reserved.proofs.cycle_reserve.Goals as goal
 

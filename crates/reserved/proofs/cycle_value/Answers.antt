@@ -1,25 +1,21 @@
 -- `cycle_value` gives the cycle's value, or the default: each case of the answer has its list of values.
 use mathlib.Core.Path.{◌≡◌, refl, sym, ap, ◌∙◌}
-use mathlib.Core.Logic.{⊎_elim}
-use mathlib.Core.List.{[], ◌∷◌}
-use native.Mathlib.Omega.{arith}
-use types.Run.{OneOf}
-use denote.Enum.Declared.{tag_of}
+use mathlib.Core.List.{[]}
+use lib.IntN.{ℤ}
 use mir.Syntax.{w32, w64}
 use mir.Val.{SFits}
 use mir.Facts.{to_z-of_z}
-use borrow.Author.Rules.{rules, sfits_of}
+use borrow.Author.Rules.{sfits_of}
 use Rattle.reserved.specs.declared.CycleValue.{CycleValue}
 use Rattle.reserved.specs.declared.CycleValue.TheVariants.{Value, Nothing, Refused}
 use Rattle.laws.specs.Answers.{Said}
 use Rattle.reserved.specs.Cycle.{said, calc_of}
 use Rattle.reserved.specs.Reserve.{cycle_of, first_or}
-use Rattle.reserved.specs.contracts.CycleValue.{the_type}
 use Rattle.reserved.proofs.cycle_value.Goals as goal
 
 -- an answer of any other case has no value
-without : (a : CycleValue) → OneOf (1 ∷ 2 ∷ []) (tag_of the_type a) → (said a).values ≡ []
-without (Value v) h = absurd (⊎_elim (λ e. omega arith) (λ e. omega arith) h)
+without : (a : CycleValue) → ((v : ℤ) → a ≡ Value v → ⊥) → (said a).values ≡ []
+without (Value v) h = absurd (h v refl)
 without Nothing h = refl
 without Refused h = refl
 
@@ -39,9 +35,9 @@ given-at-2 c =
 
 pub returns-in_default : goal.returns-in_default
 returns-in_default c =
-    rw (to_z-of_z c.ranges.def) (sym (ap (first_or c.args.def) (sym (given c) ∙ without c.calc.result c.in_default-own.keys2)))
+    rw (to_z-of_z c.ranges.def) (sym (ap (first_or c.args.def) (sym (given c) ∙ without c.calc.result c.in_default.not-Value)))
 
 pub returns : goal.returns
 returns c =
-    let f : SFits w32 c.in-Value.value.0.0 = sfits_of c.known_told-1-own.given.0.1 in
-    rw (to_z-of_z f) (sym (ap (first_or c.args.def) (sym (given-at-2 c) ∙ ap (λ (a : CycleValue). (said a).values) c.in-Value.value.1)))
+    let f : SFits w32 c.in-Value.value = sfits_of c.in-Value.known_told-1-own.given.0.1 in
+    rw (to_z-of_z f) (sym (ap (first_or c.args.def) (sym (given-at-2 c) ∙ ap (λ (a : CycleValue). (said a).values) c.in-Value.is)))

@@ -1,5 +1,4 @@
 -- `idle_reserve` holds the empty list, and zeros.
-use borrow.Author.Rules.{rules}
 use Rattle.reserved.proofs.idle_reserve.Goals as goal
 
 pub returns : goal.returns

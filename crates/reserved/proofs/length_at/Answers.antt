@@ -23,7 +23,7 @@ bounds-list-i c = let h = numbers-count _ (curve-numbers _ c.requires.list_value
 
 pub returns : goal.returns
 returns c =
-    let a = c.args.t1 in
+    let a = c.args.list in
     let i = c.args.i in
     let m : length a.items ≡ list_limit = search rules in
     let h = numbers-count a (curve-numbers a c.requires.list_value) in

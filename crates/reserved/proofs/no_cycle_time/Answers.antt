@@ -1,5 +1,4 @@
 -- `no_cycle_time` holds the empty list, and zeros.
-use borrow.Author.Rules.{rules}
 use Rattle.reserved.proofs.no_cycle_time.Goals as goal
 
 pub returns : goal.returns

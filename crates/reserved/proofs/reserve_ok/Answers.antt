@@ -1,7 +1,6 @@
 -- `reserve_ok` joins the tests of what is reserved.
 use mathlib.Core.Path.{◌≡◌}
 use mir.Syntax.{w32, w64}
-use borrow.Author.Rules.{rules}
 use Rattle.laws.proofs.Tests.{is_at}
 use Rattle.numbers.specs.Ranges.{is_stored_time, is_length}
 use Rattle.reserved.specs.Reserve.{ok_reserve}

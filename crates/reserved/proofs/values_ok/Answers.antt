@@ -1,5 +1,4 @@
 -- `values_ok` asks the test that the kind calls for.
-use borrow.Author.Rules.{rules}
 use borrow.Author.Tests.{eq-eqb, ne_eqb}
 use Rattle.reserved.specs.Reserve.{ok_values}
 use Rattle.reserved.proofs.values_ok.Goals as goal

@@ -9,15 +9,12 @@ use Rattle.state.proofs.Lent.{notes-few, waves-few, sines-few, cycles-few}
 use Rattle.reserving.specs.Clearing.{cleared}
 use Rattle.reserving.specs.Setting.{note_room, with_note}
 use Rattle.reserving.proofs.Settling.{no_place, put_in}
+use Rattle.reserving.proofs.put_in_notes.Goals.{After-take_note-notes}
 use Rattle.reserving.proofs.put_in_notes.Goals as goal
 
 -- how many are left
-left-count : (c : goal.Then-notes-ge-PLACES) → c.take_note-notes.result.count ≡ (notes_without c.args.track.notes c.args.k).count
+left-count : (c : After-take_note-notes) → c.take_note-notes.result.count ≡ (notes_without c.args.track.notes c.args.k).count
 left-count c = ap (λ (t : NoteTable). t.count) c.take_note-notes.ensures
-
--- how many are left
-left-count-at-2 : (c : goal.After-with_tables) → c.take_note-notes.result.count ≡ (notes_without c.args.track.notes c.args.k).count
-left-count-at-2 c = ap (λ (t : NoteTable). t.count) c.take_note-notes.ensures
 
 pub take_note-notes-requires : goal.take_note-notes-requires
 take_note-notes-requires c = notes-few _ _ c.requires
@@ -27,7 +24,7 @@ unfolding cleared
 returns-then-notes-ge-PLACES c =
     let s = c.args in
     no_place s.track s.cycles note_room (with_note s.e) (cleared s.track s.cycles s.k) refl
-    (le-ltb _ _ (rw (left-count c) at c.if-notes-ge-PLACES.true))
+    (le-ltb _ _ (rw (left-count (goal.at.returns-then-notes-ge-PLACES c).After-take_note-notes) at c.if-notes-ge-PLACES.true))
 
 pub take_wave-requires : goal.take_wave-requires
 take_wave-requires c = waves-few _ _ c.requires
@@ -50,4 +47,4 @@ returns c =
       c.take_sine.ensures,
       c.take_cycle.ensures ∙ ap (λ (t : CycleTable). cycles_without t s.k) c.cycles_of-own.ensures,
     )
-    (put_in s.track s.cycles note_room (with_note s.e) b refl (lt-ltb _ _ (rw (left-count-at-2 c) at c.if-notes-ge-PLACES.false)))
+    (put_in s.track s.cycles note_room (with_note s.e) b refl (lt-ltb _ _ (rw (left-count (goal.at.returns c).After-take_note-notes) at c.if-notes-ge-PLACES.false)))

@@ -9,15 +9,12 @@ use Rattle.state.proofs.Lent.{notes-few, waves-few, sines-few, cycles-few}
 use Rattle.reserving.specs.Clearing.{cleared}
 use Rattle.reserving.specs.Setting.{sine_room, with_sine}
 use Rattle.reserving.proofs.Settling.{no_place, put_in}
+use Rattle.reserving.proofs.put_in_sines.Goals.{After-take_sine-sines}
 use Rattle.reserving.proofs.put_in_sines.Goals as goal
 
 -- how many are left
-left-count : (c : goal.Then-sines-ge-PLACES) → c.take_sine-sines.result.count ≡ (sines_without c.args.track.sines c.args.k).count
+left-count : (c : After-take_sine-sines) → c.take_sine-sines.result.count ≡ (sines_without c.args.track.sines c.args.k).count
 left-count c = ap (λ (t : SineTable). t.count) c.take_sine-sines.ensures
-
--- how many are left
-left-count-at-2 : (c : goal.After-with_tables) → c.take_sine-sines.result.count ≡ (sines_without c.args.track.sines c.args.k).count
-left-count-at-2 c = ap (λ (t : SineTable). t.count) c.take_sine-sines.ensures
 
 pub take_sine-sines-requires : goal.take_sine-sines-requires
 take_sine-sines-requires c = sines-few _ _ c.requires
@@ -27,7 +24,7 @@ unfolding cleared
 returns-then-sines-ge-PLACES c =
     let s = c.args in
     no_place s.track s.cycles sine_room (with_sine s.e) (cleared s.track s.cycles s.k) refl
-    (le-ltb _ _ (rw (left-count c) at c.if-sines-ge-PLACES.true))
+    (le-ltb _ _ (rw (left-count (goal.at.returns-then-sines-ge-PLACES c).After-take_sine-sines) at c.if-sines-ge-PLACES.true))
 
 pub take_note-requires : goal.take_note-requires
 take_note-requires c = notes-few _ _ c.requires
@@ -50,4 +47,4 @@ returns c =
       c.put_sine.ensures ∙ ap (λ (t : SineTable). sines_with t s.e) c.take_sine-sines.ensures,
       c.take_cycle.ensures ∙ ap (λ (t : CycleTable). cycles_without t s.k) c.cycles_of-own.ensures,
     )
-    (put_in s.track s.cycles sine_room (with_sine s.e) b refl (lt-ltb _ _ (rw (left-count-at-2 c) at c.if-sines-ge-PLACES.false)))
+    (put_in s.track s.cycles sine_room (with_sine s.e) b refl (lt-ltb _ _ (rw (left-count (goal.at.returns c).After-take_sine-sines) at c.if-sines-ge-PLACES.false)))

@@ -9,15 +9,12 @@ use Rattle.state.proofs.Lent.{notes-few, waves-few, sines-few, cycles-few}
 use Rattle.reserving.specs.Clearing.{cleared}
 use Rattle.reserving.specs.Setting.{wave_room, with_wave}
 use Rattle.reserving.proofs.Settling.{no_place, put_in}
+use Rattle.reserving.proofs.put_in_waves.Goals.{After-take_wave-waves}
 use Rattle.reserving.proofs.put_in_waves.Goals as goal
 
 -- how many are left
-left-count : (c : goal.Then-waves-ge-PLACES) → c.take_wave-waves.result.count ≡ (waves_without c.args.track.waves c.args.k).count
+left-count : (c : After-take_wave-waves) → c.take_wave-waves.result.count ≡ (waves_without c.args.track.waves c.args.k).count
 left-count c = ap (λ (t : WaveTable). t.count) c.take_wave-waves.ensures
-
--- how many are left
-left-count-at-2 : (c : goal.After-with_tables) → c.take_wave-waves.result.count ≡ (waves_without c.args.track.waves c.args.k).count
-left-count-at-2 c = ap (λ (t : WaveTable). t.count) c.take_wave-waves.ensures
 
 pub take_wave-waves-requires : goal.take_wave-waves-requires
 take_wave-waves-requires c = waves-few _ _ c.requires
@@ -27,7 +24,7 @@ unfolding cleared
 returns-then-waves-ge-PLACES c =
     let s = c.args in
     no_place s.track s.cycles wave_room (with_wave s.e) (cleared s.track s.cycles s.k) refl
-    (le-ltb _ _ (rw (left-count c) at c.if-waves-ge-PLACES.true))
+    (le-ltb _ _ (rw (left-count (goal.at.returns-then-waves-ge-PLACES c).After-take_wave-waves) at c.if-waves-ge-PLACES.true))
 
 pub take_note-requires : goal.take_note-requires
 take_note-requires c = notes-few _ _ c.requires
@@ -50,4 +47,4 @@ returns c =
       c.take_sine.ensures,
       c.take_cycle.ensures ∙ ap (λ (t : CycleTable). cycles_without t s.k) c.cycles_of-own.ensures,
     )
-    (put_in s.track s.cycles wave_room (with_wave s.e) b refl (lt-ltb _ _ (rw (left-count-at-2 c) at c.if-waves-ge-PLACES.false)))
+    (put_in s.track s.cycles wave_room (with_wave s.e) b refl (lt-ltb _ _ (rw (left-count (goal.at.returns c).After-take_wave-waves) at c.if-waves-ge-PLACES.false)))

@@ -15,49 +15,33 @@ use Rattle.drawing.specs.Calls.{cc_target}
 use Rattle.reserving.specs.Old.{alone_refusal, remove_cc_on_note_wave}
 use Rattle.reserving.proofs.Alone.{usable}
 use Rattle.reserving.proofs.Handing.{handed}
+use Rattle.reserving.proofs.remove_cc_on_note_wave.Goals.{After-asked_alone-code}
 use Rattle.reserving.proofs.remove_cc_on_note_wave.Goals as goal
 
-aimed : (c : goal.After-take_sine-track) → to_z w32 (of_z w32 c.cc_target-target.result) ≡ cc_target c.args.number
+aimed : (c : After-asked_alone-code) → to_z w32 (of_z w32 c.cc_target-target.result) ≡ cc_target c.args.number
 aimed c = handed w32 cc_target c.cc_target-target.type_inv c.ranges.number c.cc_target-target.ensures
 
-aimed-at-2 : (c : goal.Then-code-ne0) → to_z w32 (of_z w32 c.cc_target-target.result) ≡ cc_target c.args.number
-aimed-at-2 c = handed w32 cc_target c.cc_target-target.type_inv c.ranges.number c.cc_target-target.ensures
-
-aimed-at-3 : (c : goal.After-take_wave-arg-1) → to_z w32 (of_z w32 c.cc_target-target.result) ≡ cc_target c.args.number
-aimed-at-3 c = handed w32 cc_target c.cc_target-target.type_inv c.ranges.number c.cc_target-target.ensures
-
-aimed-at-4 : (c : goal.After-take_sine-arg-1) → to_z w32 (of_z w32 c.cc_target-target.result) ≡ cc_target c.args.number
-aimed-at-4 c = handed w32 cc_target c.cc_target-target.type_inv c.ranges.number c.cc_target-target.ensures
-
-code_is : (c : goal.Then-code-ne0) → c.asked_alone-code.result ≡ alone_refusal c.args.track (cc_target c.args.number)
-code_is c = c.asked_alone-code.ensures ∙ ap (alone_refusal c.args.track) (aimed-at-2 c)
-
-code_is-at-2 : (c : goal.After-take_wave-arg-1) → c.asked_alone-code.result ≡ alone_refusal c.args.track (cc_target c.args.number)
-code_is-at-2 c = c.asked_alone-code.ensures ∙ ap (alone_refusal c.args.track) (aimed-at-3 c)
-
-code_is-at-3 : (c : goal.After-take_sine-arg-1) → c.asked_alone-code.result ≡ alone_refusal c.args.track (cc_target c.args.number)
-code_is-at-3 c = c.asked_alone-code.ensures ∙ ap (alone_refusal c.args.track) (aimed-at-4 c)
-
-code_is-at-4 : (c : goal.After-take_sine-track) → c.asked_alone-code.result ≡ alone_refusal c.args.track (cc_target c.args.number)
-code_is-at-4 c = c.asked_alone-code.ensures ∙ ap (alone_refusal c.args.track) (aimed c)
+code_is : (c : After-asked_alone-code) → c.asked_alone-code.result ≡ alone_refusal c.args.track (cc_target c.args.number)
+code_is c = c.asked_alone-code.ensures ∙ ap (alone_refusal c.args.track) (aimed c)
 
 pub returns-then-code-ne0 : goal.returns-then-code-ne0
 unfolding remove_cc_on_note_wave
-returns-then-code-ne0 c = refused-by (code_is c) _ _ c.if-code-ne0.true
+returns-then-code-ne0 c = refused-by (code_is (goal.at.returns-then-code-ne0 c).After-asked_alone-code) _ _ c.if-code-ne0.true
 
 pub take_wave-track-requires : goal.take_wave-track-requires
 take_wave-track-requires c =
-    waves-few _ (usable _ _ (sym (code_is-at-2 c) ∙ c.if-code-ne0.false))
+    waves-few _ (usable _ _ (sym (code_is (goal.at.take_wave-track-requires c).After-asked_alone-code) ∙ c.if-code-ne0.false))
 
 pub take_sine-track-requires : goal.take_sine-track-requires
 take_sine-track-requires c =
-    sines-few _ (usable _ _ (sym (code_is-at-3 c) ∙ c.if-code-ne0.false))
+    sines-few _ (usable _ _ (sym (code_is (goal.at.take_sine-track-requires c).After-asked_alone-code) ∙ c.if-code-ne0.false))
 
 pub returns : goal.returns
 unfolding remove_cc_on_note_wave
 returns c =
     let a = c.args.track in
-    let target = c.key_of-key.ensures ∙ ap key (aimed c) in
+    let d = (goal.at.returns c).After-asked_alone-code in
+    let target = c.key_of-key.ensures ∙ ap key (aimed d) in
     ap₂ (λ (t : WaveTable) (u : SineTable). answer 0 (with_tables a a.notes t u a.cycles))
     (c.take_wave-track.ensures ∙ ap (waves_without a.waves) target) (c.take_sine-track.ensures ∙ ap (sines_without a.sines) target)
-    ∙ done-by (code_is-at-4 c) _ _ c.if-code-ne0.false
+    ∙ done-by (code_is d) _ _ c.if-code-ne0.false

@@ -9,37 +9,26 @@ use Rattle.reserving.specs.Clearing.{refusal, cleared, reserving}
 use Rattle.reserving.specs.Setting.{remove_reserve}
 use Rattle.reserving.proofs.Refusing.{usable}
 use Rattle.reserving.proofs.Settling.{refused, done}
+use Rattle.reserving.proofs.remove_reserve.Goals.{After-asked-code}
 use Rattle.reserving.proofs.remove_reserve.Goals as goal
 
-module _ (c : goal.Then-code-ne0) where
+module _ (c : After-asked-code) where
   code_is : c.asked-code.result ≡ refusal c.args.track c.args.size c.args.cycles c.args.target true true true
   code_is =
       c.asked-code.ensures
-      ∙ ap (λ (z : ℤ). refusal c.args.track c.args.size c.args.cycles z true true true) (to_z-of_z c.fits.target)
-
-module _ (c : goal.After-key_of-k) where
-  code_is-at-2 : c.asked-code.result ≡ refusal c.args.track c.args.size c.args.cycles c.args.target true true true
-  code_is-at-2 =
-      c.asked-code.ensures
-      ∙ ap (λ (z : ℤ). refusal c.args.track c.args.size c.args.cycles z true true true) (to_z-of_z c.fits.target)
-
-module _ (c : goal.After-cleared) where
-  code_is-at-3 : c.asked-code.result ≡ refusal c.args.track c.args.size c.args.cycles c.args.target true true true
-  code_is-at-3 =
-      c.asked-code.ensures
-      ∙ ap (λ (z : ℤ). refusal c.args.track c.args.size c.args.cycles z true true true) (to_z-of_z c.fits.target)
+      ∙ ap (λ (z : ℤ). refusal c.args.track c.args.size c.args.cycles z true true true) (to_z-of_z c.ranges.target)
 
 pub returns-then-code-ne0 : goal.returns-then-code-ne0
 unfolding remove_reserve reserving
-returns-then-code-ne0 c = refused (code_is c) _ _ _ c.if-code-ne0.true
+returns-then-code-ne0 c = refused (code_is (goal.at.returns-then-code-ne0 c).After-asked-code) _ _ _ c.if-code-ne0.true
 
 pub cleared-requires : goal.cleared-requires
 cleared-requires c =
-    usable _ _ _ _ _ _ _ (sym (code_is-at-2 c) ∙ c.if-code-ne0.false)
+    usable _ _ _ _ _ _ _ (sym (code_is (goal.at.cleared-requires c).After-asked-code) ∙ c.if-code-ne0.false)
 
 pub returns : goal.returns
 unfolding remove_reserve reserving
 returns c =
     c.cleared.ensures
     ∙ ap (cleared c.args.track c.args.cycles) (c.key_of-k.ensures ∙ ap key (to_z-of_z c.ranges.target))
-    ∙ done (code_is-at-3 c) _ _ _ c.if-code-ne0.false
+    ∙ done (code_is (goal.at.returns c).After-asked-code) _ _ _ c.if-code-ne0.false

@@ -13,64 +13,40 @@ use Rattle.reserving.specs.Clearing.{refusal, reserving}
 use Rattle.reserving.specs.Setting.{wave_of, wave_room, with_wave, set_on_note_wave}
 use Rattle.reserving.proofs.Refusing.{usable}
 use Rattle.reserving.proofs.Settling.{relisted, turned-away, settled}
+use Rattle.reserving.proofs.set_on_note_wave.Goals.{After-asked-code}
 use Rattle.reserving.proofs.set_on_note_wave.Goals as goal
 
-module _ (c : goal.Then-code-ne0) where
+module _ (c : After-asked-code) where
   abbrev v : Listed
-  v = c.Numbers-of.result
+  v = c.numbers_of-listed.result
 
   abbrev e : Numbers → OnNoteWave
   e x = wave_of c.args.target c.args.mode x
 
   code_is : c.asked-code.result ≡ refusal c.args.track c.args.size c.args.cycles c.args.target (eqb v.code 0) (ok_wave (e v.list)) true
-  code_is = let t = to_z-of_z c.fits.target in rw (t, c.wave_ok.ensures, t) at c.asked-code.ensures
+  code_is = let t = to_z-of_z c.ranges.target in rw (t, c.wave_ok.ensures, t) at c.asked-code.ensures
 
   whole : reserving c.args.track c.args.size c.args.cycles c.args.target (eqb v.code 0) (ok_wave (e v.list)) wave_room (with_wave (e v.list))
       ≡ set_on_note_wave c.args.track c.args.size c.args.cycles c.args.target c.args.mode c.args.list.now
   unfolding set_on_note_wave
   whole =
       relisted c.args.track c.args.size c.args.cycles c.args.target c.args.list.now (λ (x : Numbers). ok_wave (e x))
-      (λ (x : Numbers). wave_room) (λ (x : Numbers). with_wave (e x)) c.Numbers-of.ensures
-
-module _ (c : goal.After-key_of-k) where
-  abbrev v-at-2 : Listed
-  v-at-2 = c.Numbers-of.result
-
-  abbrev e-at-2 : Numbers → OnNoteWave
-  e-at-2 x = wave_of c.args.target c.args.mode x
-
-  code_is-at-2 : c.asked-code.result ≡ refusal c.args.track c.args.size c.args.cycles c.args.target (eqb v-at-2.code 0) (ok_wave (e-at-2 v-at-2.list)) true
-  code_is-at-2 = let t = to_z-of_z c.fits.target in rw (t, c.wave_ok.ensures, t) at c.asked-code.ensures
-
-module _ (c : goal.After-put_in_waves) where
-  abbrev v-at-3 : Listed
-  v-at-3 = c.Numbers-of.result
-
-  abbrev e-at-3 : Numbers → OnNoteWave
-  e-at-3 x = wave_of c.args.target c.args.mode x
-
-  code_is-at-3 : c.asked-code.result ≡ refusal c.args.track c.args.size c.args.cycles c.args.target (eqb v-at-3.code 0) (ok_wave (e-at-3 v-at-3.list)) true
-  code_is-at-3 = let t = to_z-of_z c.fits.target in rw (t, c.wave_ok.ensures, t) at c.asked-code.ensures
-
-  whole-at-3 : reserving c.args.track c.args.size c.args.cycles c.args.target (eqb v-at-3.code 0) (ok_wave (e-at-3 v-at-3.list)) wave_room (with_wave (e-at-3 v-at-3.list))
-      ≡ set_on_note_wave c.args.track c.args.size c.args.cycles c.args.target c.args.mode c.args.list.now
-  unfolding set_on_note_wave
-  whole-at-3 =
-      relisted c.args.track c.args.size c.args.cycles c.args.target c.args.list.now (λ (x : Numbers). ok_wave (e-at-3 x))
-      (λ (x : Numbers). wave_room) (λ (x : Numbers). with_wave (e-at-3 x)) c.Numbers-of.ensures
+      (λ (x : Numbers). wave_room) (λ (x : Numbers). with_wave (e x)) c.numbers_of-listed.ensures
 
 pub returns-then-code-ne0 : goal.returns-then-code-ne0
 returns-then-code-ne0 c =
     let a = c.args in
-    turned-away a.track a.size a.cycles a.target _ _ wave_room (with_wave (e c (v c).list)) (code_is c) c.if-code-ne0.true ∙ whole c
+    let d = (goal.at.returns-then-code-ne0 c).After-asked-code in
+    turned-away a.track a.size a.cycles a.target _ _ wave_room (with_wave (e d (v d).list)) (code_is d) c.if-code-ne0.true ∙ whole d
 
 pub put_in_waves-requires : goal.put_in_waves-requires
-put_in_waves-requires c = usable _ _ _ _ _ _ _ (sym (code_is-at-2 c) ∙ c.if-code-ne0.false)
+put_in_waves-requires c = usable _ _ _ _ _ _ _ (sym (code_is (goal.at.put_in_waves-requires c).After-asked-code) ∙ c.if-code-ne0.false)
 
 pub returns : goal.returns
 returns c =
     let a = c.args in
+    let d = (goal.at.returns c).After-asked-code in
     let t = to_z-of_z c.ranges.target in
-    settled a.track a.size a.cycles a.target _ _ wave_room (with_wave (e-at-3 c (v-at-3 c).list)) (code_is-at-3 c) c.if-code-ne0.false
+    settled a.track a.size a.cycles a.target _ _ wave_room (with_wave (e d (v d).list)) (code_is d) c.if-code-ne0.false
     (rw (t, c.key_of-k.ensures ∙ ap key t) at c.put_in_waves.ensures)
-    ∙ whole-at-3 c
+    ∙ whole d

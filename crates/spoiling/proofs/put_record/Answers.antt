@@ -1,8 +1,5 @@
 -- `put_record` is safe and ends: eight numbers, and the list stays as long as it was.
-use mathlib.Core.Path.{◌≡◌, refl}
-use Prim.Native.Nat.{◌-◌}
-use lib.ListN.{length}
-use borrow.Author.Rules.{rules}
+use mathlib.Core.Path.{refl}
 use Rattle.spoiling.proofs.put_record.Goals as goal
 
 pub loop-i-init : goal.loop-i-init

@@ -1,8 +1,7 @@
 -- `put_record` is safe and ends: eight numbers, and the list stays as long as it was.
-use mathlib.Core.Path.{◌≡◌, refl}
+use mathlib.Core.Path.{◌≡◌}
 use Prim.Native.Nat.{◌-◌}
 use lib.ListN.{length}
-use borrow.Author.Rules.{rules}
 use Rattle.spoiling.proofs.put_record.Given as goal
 
 abbrev pub invariant-loop-i : goal.invariant-loop-i

@@ -46,7 +46,7 @@ loop-run-preserved c =
     let l = c.loop-run in
     let a = c.args in
     let t = c.step-run in
-    (refl, going_step a.tape.now (pass begun a.events.now) l.run l.events l.invariant.1 c.loop-run-test.true (pass t.result t.new.1.1.0) (joined t.ensures.0 t.ensures.1) c.events-1.given)
+    (refl, going_step a.tape.now (pass begun a.events.now) l.run l.events l.invariant.1 c.loop-run-test.true (pass t.result t.new.events) (joined t.ensures.0 t.ensures.1) t.auto.events)
 
 pub end-requires-2 : goal.end-requires-2
 end-requires-2 c = tt

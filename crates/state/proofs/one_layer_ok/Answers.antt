@@ -8,7 +8,6 @@ use borrow.Author.Rules.{rules}
 use lib.Dec.{leb}
 use lib.ListN.{length, get_or}
 use Rattle.laws.specs.Lists.{all, counted}
-use Rattle.laws.proofs.Reading.{length-told}
 use Rattle.numbers.specs.Limits.{layer_limit}
 use Rattle.layers.specs.declared.Layer.{Layer}
 use Rattle.layers.specs.declared.Layers.{Layers}
@@ -30,5 +29,5 @@ one-layer l d e h = one-counts l.items d h ∙ ap (λ (n : ℕ). leb 1 n && coun
 
 pub returns : goal.returns
 returns c =
-    let h : length c.args.t1.items ≡ layer_limit = search (rules, length-told) in
-    c.layer_ok.ensures ∙ one-layer c.args.t1 _ c.requires h
+    let h : length c.args.layers.items ≡ layer_limit = search rules in
+    c.layer_ok.ensures ∙ one-layer c.args.layers _ c.requires h

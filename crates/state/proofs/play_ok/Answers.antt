@@ -3,7 +3,6 @@ use mathlib.Core.Path.{◌≡◌}
 use mir.Syntax.{w32, w64}
 use Rattle.laws.proofs.Tests.{is_at}
 use Rattle.numbers.specs.Ranges.{is_time, is_number, is_length, is_channel, is_timebase}
-use borrow.Author.Rules.{rules}
 use Rattle.state.proofs.play_ok.Goals as goal
 
 pub returns : goal.returns

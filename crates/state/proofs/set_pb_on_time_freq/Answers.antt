@@ -1,23 +1,18 @@
--- `set_pb_on_time_freq` tests the track and the frequency.
-use mathlib.Core.Path.{◌≡◌}
-use mathlib.Core.Bool.{◌&&◌}
-use mir.Syntax.{w32}
+-- `set_pb_on_time_freq` tests the track and the number.
+use mathlib.Core.Path.{◌≡◌, sym, ◌∙◌}
 use mir.Facts.{to_z-of_z}
 use borrow.Author.Rules.{rules}
-use Rattle.laws.proofs.Tests.{no, yes, is_at, both}
+use Rattle.laws.proofs.Tests.{both}
 use Rattle.numbers.specs.Ranges.{is_length}
-use Rattle.state.specs.Tests.{ok_track}
 use Rattle.state.proofs.Answers.{refused, done}
 use Rattle.state.proofs.set_pb_on_time_freq.Goals as goal
 
-tested : (c : goal.Then-not-a-b) → (c.track_ok-a.result && c.is_length-b.result) ≡ (ok_track c.args.track && is_length c.args.freq)
-tested c = both c.track_ok-a.ensures (is_at w32 is_length c.ranges.freq.sfits c.is_length-b.ensures)
-
-tested-at-2 : (c : goal.Else-not-a-b) → (c.track_ok-a.result && c.is_length-b.result) ≡ (ok_track c.args.track && is_length c.args.freq)
-tested-at-2 c = both c.track_ok-a.ensures (is_at w32 is_length c.ranges.freq.sfits c.is_length-b.ensures)
-
 pub returns-then-not-a-b : goal.returns-then-not-a-b
-returns-then-not-a-b c = refused _ _ (no (tested c) c.if-not-a-b.true)
+returns-then-not-a-b c =
+    let e : c.is_length-b.result ≡ is_length c.args.freq = search rules in
+    refused _ _ (sym (both c.track_ok-a.ensures e) ∙ c.if-not-a-b.true)
 
 pub returns : goal.returns
-returns c = rw (to_z-of_z c.ranges.freq) (done _ _ (yes (tested-at-2 c) c.if-not-a-b.false))
+returns c =
+    let e : c.is_length-b.result ≡ is_length c.args.freq = search rules in
+    rw (to_z-of_z c.ranges.freq) (done _ _ (sym (both c.track_ok-a.ensures e) ∙ c.if-not-a-b.false))

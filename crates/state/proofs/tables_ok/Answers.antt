@@ -10,7 +10,6 @@ use Rattle.tables.specs.declared.SineTable.{SineTable}
 use Rattle.tables.specs.Tables.{ok_notes, ok_waves, ok_sines, note_keys, wave_keys, sine_keys, lone}
 use Rattle.tables.specs.Stored.{ok_stored}
 use Rattle.state.specs.Tests.{ok_tables}
-use borrow.Author.Rules.{rules}
 use Rattle.state.proofs.tables_ok.Goals as goal
 
 stored-tables : (n : NoteTable) (w : WaveTable) (s : SineTable) → ok_stored n w s ≡ ok_tables n w s

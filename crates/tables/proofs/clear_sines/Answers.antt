@@ -1,11 +1,10 @@
 -- `tables::clear_sines`: one more place is zeroed at each turn.
 use mathlib.Core.Path.{◌≡◌, ap}
 use mathlib.Core.List.{List}
-use Prim.Native.Nat.{◌-◌}
 use native.Mathlib.Omega.{arith}
 use borrow.Author.Rules.{rules}
 use lib.ListN.{length}
-use Rattle.laws.proofs.Taking.{Clearing, clear_none}
+use Rattle.laws.proofs.Taking.{clear_none}
 use Rattle.laws.proofs.Reading.{length-told}
 use Rattle.tables.specs.declared.OnNoteSine.{OnNoteSine}
 use Rattle.tables.specs.Tables.{no_sine}

@@ -1,9 +1,8 @@
 -- `tables::cycles_ok`: the records so far may be stored (laws, Tests).
 use mathlib.Core.Path.{◌≡◌, refl, sym, ◌∙◌}
-use Prim.Native.Nat.{◌-◌, ◌≤◌}
 use borrow.Author.Rules.{rules}
-use lib.ListN.{take, length}
-use Rattle.laws.proofs.Tests.{Left, passed-of, counted-over, counted-no, counted-yes, no, yes}
+use lib.ListN.{length}
+use Rattle.laws.proofs.Tests.{passed-of, counted-over, counted-no, counted-yes}
 use Rattle.laws.proofs.Reading.{length-told}
 use Rattle.cycles.specs.Rules.{ok_cycle}
 use Rattle.tables.specs.Tables.{ok_cycles}

@@ -1,12 +1,8 @@
 -- `tables::cycles_ok`: the records so far may be stored (laws, Tests).
-use mathlib.Core.Path.{◌≡◌, refl}
 use Prim.Native.Nat.{◌-◌, ◌≤◌}
-use borrow.Author.Rules.{rules}
-use lib.ListN.{take, length}
-use Rattle.laws.proofs.Tests.{Left, passed-of, counted-over, counted-no, counted-yes, no, yes}
-use Rattle.laws.proofs.Reading.{length-told}
+use lib.ListN.{take}
+use Rattle.laws.proofs.Tests.{Left}
 use Rattle.cycles.specs.Rules.{ok_cycle}
-use Rattle.tables.specs.Tables.{ok_cycles}
 use Rattle.tables.proofs.cycles_ok.Given as goal
 
 abbrev pub invariant-loop-i : goal.invariant-loop-i

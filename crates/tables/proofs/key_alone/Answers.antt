@@ -1,15 +1,14 @@
 -- `tables::key_alone`: those behind the place, up to j, have another key (laws, Keys).
 use mathlib.Core.Path.{◌≡◌, refl, ap, ◌∙◌}
-use mathlib.Core.Bool.{Bool, not}
-use Prim.Native.Nat.{ℕ, ◌+◌, ◌-◌, ◌≤◌, ◌<◌}
+use mathlib.Core.Bool.{not}
+use Prim.Native.Nat.{◌+◌}
 use native.Mathlib.Omega.{arith}
 use borrow.Author.Rules.{rules}
 use borrow.Author.Tests.{eq-eqb, ne_eqb}
-use lib.Dec.{eqb}
 use lib.ListN.{length, get_or, take}
 use lib.Seq.{length-take-le, get_or-take}
 use Rattle.laws.specs.Keys.{absent}
-use Rattle.laws.proofs.Keys.{From, passed-from, failed-from, ended-from}
+use Rattle.laws.proofs.Keys.{passed-from, failed-from, ended-from}
 use Rattle.tables.specs.Tables.{key_limit}
 use Rattle.tables.proofs.key_alone.Invariants.{other}
 use Rattle.tables.proofs.key_alone.Goals as goal

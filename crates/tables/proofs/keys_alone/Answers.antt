@@ -1,13 +1,12 @@
 -- `tables::keys_alone`: each key against those behind it; what is left decides (laws, Keys).
 use mathlib.Core.Path.{◌≡◌, refl, sym, ap, ◌∙◌}
-use Prim.Native.Nat.{ℕ, ◌+◌, ◌-◌, ◌≤◌}
+use Prim.Native.Nat.{ℕ, ◌+◌}
 use native.Mathlib.Omega.{arith}
 use borrow.Author.Rules.{rules}
 use lib.ListN.{length, take, drop}
 use lib.Seq.{length-take-le, get_or-take}
 use Rattle.laws.specs.Keys.{absent}
-use Rattle.laws.proofs.Keys.{Rest, one-alone, one-twice, none_left}
-use Rattle.laws.proofs.Tests.{no, yes}
+use Rattle.laws.proofs.Keys.{one-alone, one-twice, none_left}
 use Rattle.tables.specs.Tables.{key_limit}
 use Rattle.tables.proofs.keys_alone.Goals as goal
 

@@ -1,7 +1,7 @@
 -- `tables::lengths_ok` tests the triples from the front (laws, Tests): the third number of triple i stands at i * 3 + 2.
 use mathlib.Core.Path.{◌≡◌, refl, ap, ◌∙◌}
 use mathlib.Core.Bool.{not}
-use Prim.Native.Nat.{ℕ, ◌+◌, ◌*◌, ◌≤◌, ◌<◌, ◌-◌, ◌/◌}
+use Prim.Native.Nat.{ℕ, ◌+◌, ◌*◌, ◌≤◌, ◌<◌, ◌/◌}
 use native.Mathlib.Omega.{arith}
 use borrow.Author.Rules.{rules}
 use lib.IntN.{pos}
@@ -10,7 +10,7 @@ use lib.ListN.{length, get_or}
 use mir.Syntax.{w32}
 use mir.Val.{SFits}
 use Rattle.laws.proofs.Signed.{lt-back-l}
-use Rattle.laws.proofs.Tests.{Left, ended, passed, failed}
+use Rattle.laws.proofs.Tests.{ended, passed, failed}
 use Rattle.numbers.specs.Limits.{list_limit}
 use Rattle.counted.specs.declared.Numbers.{Numbers}
 use Rattle.counted.specs.Numbers.{shown}

@@ -1,21 +1,8 @@
 -- `tables::lengths_ok` tests the triples from the front (laws, Tests): the third number of triple i stands at i * 3 + 2.
-use mathlib.Core.Path.{◌≡◌, refl, ap, ◌∙◌}
-use mathlib.Core.Bool.{not}
-use Prim.Native.Nat.{ℕ, ◌+◌, ◌*◌, ◌≤◌, ◌<◌, ◌-◌, ◌/◌}
-use native.Mathlib.Omega.{arith}
-use borrow.Author.Rules.{rules}
-use lib.IntN.{pos}
-use lib.Signed.{lt_z}
-use lib.ListN.{length, get_or}
-use mir.Syntax.{w32}
-use mir.Val.{SFits}
-use Rattle.laws.proofs.Signed.{lt-back-l}
-use Rattle.laws.proofs.Tests.{Left, ended, passed, failed}
-use Rattle.numbers.specs.Limits.{list_limit}
-use Rattle.counted.specs.declared.Numbers.{Numbers}
+use Prim.Native.Nat.{◌≤◌, ◌-◌}
+use Rattle.laws.proofs.Tests.{Left}
 use Rattle.counted.specs.Numbers.{shown}
-use Rattle.counted.specs.Curves.{triples, no_triple}
-use Rattle.counted.proofs.Triples.{triple-at, length-triples}
+use Rattle.counted.specs.Curves.{triples}
 use Rattle.tables.specs.Reservations.{forward}
 use Rattle.tables.proofs.lengths_ok.Given as goal
 

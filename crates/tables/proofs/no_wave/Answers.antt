@@ -1,6 +1,5 @@
 -- `tables::no_wave`: the empty list stands in it.
 use mathlib.Core.Path.{ap}
-use borrow.Author.Rules.{rules}
 use lib.IntN.{pos}
 use Rattle.counted.specs.declared.Numbers.{Numbers}
 use Rattle.tables.proofs.no_wave.Goals as goal

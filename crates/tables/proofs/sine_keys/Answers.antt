@@ -1,7 +1,7 @@
 -- `tables::sine_keys`: one more key stands behind those gathered at each turn.
 use mathlib.Core.Path.{◌≡◌, ap, ap₂, ◌∙◌}
 use mathlib.Core.List.{List}
-use Prim.Native.Nat.{ℕ, ◌-◌}
+use Prim.Native.Nat.{ℕ}
 use native.Mathlib.Omega.{arith}
 use borrow.Author.Rules.{rules}
 use lib.IntN.{pos}
@@ -13,7 +13,7 @@ use Rattle.laws.proofs.Reading.{length-told}
 use Rattle.tables.specs.declared.OnNoteSine.{OnNoteSine}
 use Rattle.cycles.specs.Due.{key}
 use Rattle.tables.specs.Tables.{key_limit}
-use Rattle.tables.proofs.Gathering.{Gathering, nothing_yet, one_further, all_in}
+use Rattle.tables.proofs.Gathering.{nothing_yet, one_further, all_in}
 use Rattle.tables.proofs.sine_keys.Invariants.{key_of}
 use Rattle.tables.proofs.sine_keys.Goals as goal
 

@@ -1,19 +1,8 @@
 -- `tables::sine_keys`: one more key stands behind those gathered at each turn.
-use mathlib.Core.Path.{◌≡◌, ap, ap₂, ◌∙◌}
-use mathlib.Core.List.{List}
 use Prim.Native.Nat.{ℕ, ◌-◌}
-use native.Mathlib.Omega.{arith}
-use borrow.Author.Rules.{rules}
-use lib.IntN.{pos}
-use lib.ListN.{length, get_or}
-use mir.Syntax.{w32}
-use mir.Val.{SFits}
-use mir.Facts.{to_z-of_z}
-use Rattle.laws.proofs.Reading.{length-told}
 use Rattle.tables.specs.declared.OnNoteSine.{OnNoteSine}
 use Rattle.cycles.specs.Due.{key}
-use Rattle.tables.specs.Tables.{key_limit}
-use Rattle.tables.proofs.Gathering.{Gathering, nothing_yet, one_further, all_in}
+use Rattle.tables.proofs.Gathering.{Gathering}
 use Rattle.tables.proofs.sine_keys.Given as goal
 
 abbrev pub key_of : OnNoteSine → ℕ

@@ -1,16 +1,10 @@
 -- `tables::take_cycle`: of the records passed those of other targets stand in front, and what is left behind them is cleared.
-use mathlib.Core.Path.{◌≡◌, refl, ap₂, ◌∙◌}
 use mathlib.Core.List.{List}
-use Prim.Native.Nat.{ℕ, ◌-◌, ◌≤◌}
-use native.Mathlib.Omega.{arith}
-use borrow.Author.Rules.{rules}
-use lib.ListN.{length}
+use Prim.Native.Nat.{◌-◌}
 use Rattle.laws.proofs.Taking.{Compacting}
-use Rattle.laws.proofs.Reading.{length-told}
 use Rattle.cycles.specs.declared.Cycle.{Cycle}
 use Rattle.cycles.specs.Rules.{no_cycle}
 use Rattle.tables.specs.Tables.{cycle_at}
-use Rattle.tables.proofs.Closing.{few, drop-one, keep_one, finished}
 use Rattle.tables.proofs.take_cycle.Given as goal
 
 abbrev pub invariant-loop-i : goal.invariant-loop-i

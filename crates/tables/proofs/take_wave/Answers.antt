@@ -1,11 +1,10 @@
 -- `tables::take_wave`: of the records passed those of other targets stand in front, and what is left behind them is cleared.
 use mathlib.Core.Path.{◌≡◌, refl, ap₂, ◌∙◌}
 use mathlib.Core.List.{List}
-use Prim.Native.Nat.{ℕ, ◌-◌, ◌≤◌}
+use Prim.Native.Nat.{ℕ, ◌≤◌}
 use native.Mathlib.Omega.{arith}
 use borrow.Author.Rules.{rules}
 use lib.ListN.{length}
-use Rattle.laws.proofs.Taking.{Compacting}
 use Rattle.laws.proofs.Reading.{length-told}
 use Rattle.tables.specs.declared.OnNoteWave.{OnNoteWave}
 use Rattle.tables.specs.Tables.{no_wave, wave_at}

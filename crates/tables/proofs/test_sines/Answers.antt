@@ -1,6 +1,5 @@
 -- `tables::test_sines`: at each turn one more record is well, and its key stands behind those gathered (Testing).
 use mathlib.Core.Path.{◌≡◌, sym, ap, ◌∙◌}
-use Prim.Native.Nat.{ℕ, ◌-◌, ◌≤◌}
 use native.Mathlib.Omega.{arith}
 use borrow.Author.Rules.{rules}
 use lib.IntN.{pos}
@@ -8,13 +7,12 @@ use lib.ListN.{length, get_or}
 use mir.Syntax.{w32}
 use mir.Val.{SFits}
 use mir.Facts.{to_z-of_z}
-use Rattle.laws.proofs.Tests.{no, yes}
 use Rattle.laws.proofs.Reading.{length-told}
 use Rattle.cycles.specs.Due.{key}
 use Rattle.tables.specs.declared.OnNoteSine.{OnNoteSine}
 use Rattle.tables.specs.Reservations.{ok_sine}
 use Rattle.tables.specs.Tables.{ok_sines, key_limit}
-use Rattle.tables.proofs.Testing.{Testing, start, next, over, unfit, fit}
+use Rattle.tables.proofs.Testing.{start, next, over, unfit, fit}
 use Rattle.tables.proofs.test_sines.Invariants.{key_of}
 use Rattle.tables.proofs.test_sines.Goals as goal
 

@@ -4,7 +4,7 @@ use mathlib.Core.Bool.{Bool, true, not, ◌||◌}
 use borrow.Author.Rules.{rules}
 use mir.Syntax.{w32}
 use lib.Dec.{leb, eqb}
-use Rattle.laws.proofs.Tests.{both, is_at, no, yes, and_no, and_yes}
+use Rattle.laws.proofs.Tests.{both, is_at, and_no, and_yes}
 use Rattle.numbers.specs.Ranges.{is_target}
 use Rattle.counted.specs.Curves.{ok_curve}
 use Rattle.counted.proofs.Counted.{numbers-count, curve-numbers}

@@ -1,7 +1,7 @@
 -- What was added, and what the rest come to, is what all come to (`Putting`).
-use mathlib.Core.Path.{◌≡◌, refl, ap, ap₂, ◌∙◌}
+use mathlib.Core.Path.{ap, ap₂, ◌∙◌}
 use mathlib.Core.List.{List}
-use Prim.Native.Nat.{ℕ, ◌+◌, ◌-◌, ◌≤◌, ◌<◌, ◌^◌}
+use Prim.Native.Nat.{ℕ, ◌+◌, ◌≤◌, ◌<◌}
 use native.Mathlib.Omega.{arith}
 use borrow.Author.Tests.{ltb-true}
 use lib.ListN.{length}
@@ -14,55 +14,33 @@ use Rattle.writing.specs.declared.Outcome.{Outcome}
 use Rattle.state.proofs.Stored.{waves-few, sines-few}
 use Rattle.waving.specs.Drawings.{drawings_of}
 use Rattle.waving.proofs.Places.{drawings-long, next-drawing}
-use Rattle.waving.proofs.Passing.{Putting, ended, put-begun, put_ended, put-room, put-further, drafts-news, drafts-budget}
+use Rattle.waving.proofs.Passing.{ended, put_ended, put-room, put-further, drafts-news, drafts-budget}
+use Rattle.waving.proofs.add_all.Goals.{Start, In-loop-i}
 use Rattle.waving.proofs.add_all.Goals as goal
 
-total-few : (c : goal.After-struct_known-1) → c.args.track.waves.count + c.args.track.sines.count ≤ 32
+total-few : (c : Start) → c.args.track.waves.count + c.args.track.sines.count ≤ 32
 total-few c = omega (arith, waves-few c.args.track c.requires.0.passed, sines-few c.args.track c.requires.0.passed)
 
-total-few-at-2 : (c : goal.After-rest-1) → c.args.track.waves.count + c.args.track.sines.count ≤ 32
-total-few-at-2 c = omega (arith, waves-few c.args.track c.requires.0.passed, sines-few c.args.track c.requires.0.passed)
-
 -- in a turn
-module _ (c : goal.In-loop-i) where
-  inside : c.loop-i.i < c.args.track.waves.count + c.args.track.sines.count
-  inside = ltb-true _ _ (left _ _ c.loop-i-test.taken)
-
-  most : c.loop-i.rest.maximum ≤ 2 ^ 26
-  most = let m = c.loop-i.inv.1.pass.most in let p = c.requires.1 in omega arith
-
--- in a turn
-module _ (c : goal.After-add_draft-arg-1) where
-  inside-at-2 : c.loop-i.i < c.args.track.waves.count + c.args.track.sines.count
-  inside-at-2 = ltb-true _ _ (left _ _ c.loop-i-test.taken)
-
--- in a turn
-module _ (c : goal.After-rest-1) where
-  inside-at-3 : c.loop-i.i < c.args.track.waves.count + c.args.track.sines.count
-  inside-at-3 = ltb-true _ _ (left _ _ c.loop-i-test.taken)
+inside : (c : In-loop-i) → c.loop-i.i < c.args.track.waves.count + c.args.track.sines.count
+inside c = ltb-true _ _ (left _ _ c.loop-i-test.true)
 
 pub overflow_add-all : goal.overflow_add-all
-overflow_add-all c = omega (arith, total-few c)
-
-pub loop-i-init : goal.loop-i-init
-loop-i-init c = let A = c.args in (refl, put-begun (drawings_of A.track A.n) A.b (rows_of A.events.now) A.count)
-
-pub draft_at-d-requires : goal.draft_at-d-requires
-draft_at-d-requires c = (c.requires.0, inside c, most c)
+overflow_add-all c = omega (arith, total-few (goal.at.overflow_add-all c).Start)
 
 pub add_draft-o-requires : goal.add_draft-o-requires
 add_draft-o-requires c =
     let A = c.args in
     let D = c.draft_at-d.ensures in
+    let next = next-drawing A.track c.requires.0 A.n c.loop-i.i (inside (goal.at.add_draft-o-requires c).In-loop-i) in
     let room = put-room (drawings_of A.track A.n) A.b (rows_of A.events.now) A.count c.requires.3 c.loop-i.i _ c.loop-i.rest (rows_of c.loop-i.events) c.loop-i.c
-    (drawings-long A.track c.requires.0 A.n) c.loop-i.inv.1 _ (next-drawing A.track c.requires.0 A.n c.loop-i.i (inside-at-2 c)) c.loop-i-test.true in
+    (drawings-long A.track c.requires.0 A.n) c.loop-i.invariant.1 _ next c.loop-i-test.true in
     (D.able, c.requires.2, rw (drafts-news c.draft_at-d.result _ c.loop-i.rest D) room)
 
 pub overflow_add-i : goal.overflow_add-i
-overflow_add-i c = omega (arith, inside-at-3 c, total-few-at-2 c)
-
-pub loop-i-smaller : goal.loop-i-smaller
-loop-i-smaller c = omega (arith, inside-at-3 c)
+overflow_add-i c =
+    let at = goal.at.overflow_add-i c in
+    omega (arith, inside at.In-loop-i, total-few at.Start)
 
 pub loop-i-preserved : goal.loop-i-preserved
 loop-i-preserved c =
@@ -70,17 +48,15 @@ loop-i-preserved c =
     let D = c.draft_at-d.ensures in
     let r = c.draft_at-d.result in
     let o = c.add_draft-o.ensures in
+    let next = next-drawing A.track c.requires.0 A.n c.loop-i.i (inside (goal.at.loop-i-preserved c).In-loop-i) in
     let news = drafts-news r _ c.loop-i.rest D in (
-      c.add_draft-o.auto.1.1.0 ∙ c.loop-i.inv.0,
+      c.add_draft-o.auto.events ∙ c.loop-i.invariant.0,
       put-further (drawings_of A.track A.n) A.b (rows_of A.events.now) A.count c.requires.3 c.loop-i.i _ c.loop-i.rest (rows_of c.loop-i.events) c.loop-i.c
-          (drawings-long A.track c.requires.0 A.n) c.loop-i.inv.1 _ (next-drawing A.track c.requires.0 A.n c.loop-i.i (inside-at-3 c)) c.loop-i-test.true
+          (drawings-long A.track c.requires.0 A.n) c.loop-i.invariant.1 _ next c.loop-i-test.true
           (ap (λ (x : Outcome). x.budget) o.0 ∙ drafts-budget r _ c.loop-i.rest D)
           (ap (λ (x : Outcome). x.count) o.0 ∙ ap (λ (es : List Event). c.loop-i.c + length es) news)
           (o.1 ∙ ap (append (rows_of c.loop-i.events) c.loop-i.c) news),
     )
-
-pub shape_of-events : goal.shape_of-events
-shape_of-events c = c.loop-i.invariant.0
 
 pub returns : goal.returns
 returns c =

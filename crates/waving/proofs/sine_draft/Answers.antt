@@ -19,43 +19,32 @@ use Rattle.drawing.specs.Write.{write_of}
 use Rattle.drawing.proofs.Asking.{track-ready}
 use Rattle.waving.specs.Drawings.{sine_drawing}
 use borrow.Author.Rules.{rules}
+use Rattle.waving.proofs.sine_draft.Goals.{After-from_i-stype}
 use Rattle.waving.proofs.sine_draft.Goals as goal
 
-module _ (c : goal.After-struct_told-5-1) where
+module _ (c : After-from_i-stype) where
   held : (to_z w32 (of_z w32 c.args.e.low) ≡ c.args.e.low) × (to_z w32 (of_z w32 c.args.e.high) ≡ c.args.e.high)
       × (to_z w32 (of_z w32 c.args.e.length) ≡ c.args.e.length) × (to_z w32 (of_z w32 c.args.e.times) ≡ c.args.e.times)
   held =
-      let g = c.struct_told-5-1.given in
-      let low : SFits w32 c.args.e.low = record { sfits = g.1.1.0.1 } in
-      let high : SFits w32 c.args.e.high = record { sfits = g.1.1.1.0.1 } in
-      let long : SFits w32 c.args.e.length = record { sfits = g.1.1.1.1.0.1 } in
-      let times : SFits w32 c.args.e.times = record { sfits = g.1.1.1.1.1.0.1 } in
-      (to_z-of_z low, to_z-of_z high, to_z-of_z long, to_z-of_z times)
-
-module _ (c : goal.After-empty) where
-  held-at-2 : (to_z w32 (of_z w32 c.args.e.low) ≡ c.args.e.low) × (to_z w32 (of_z w32 c.args.e.high) ≡ c.args.e.high)
-      × (to_z w32 (of_z w32 c.args.e.length) ≡ c.args.e.length) × (to_z w32 (of_z w32 c.args.e.times) ≡ c.args.e.times)
-  held-at-2 =
-      let g = c.struct_told-5-1.given in
-      let low : SFits w32 c.args.e.low = record { sfits = g.1.1.0.1 } in
-      let high : SFits w32 c.args.e.high = record { sfits = g.1.1.1.0.1 } in
-      let long : SFits w32 c.args.e.length = record { sfits = g.1.1.1.1.0.1 } in
-      let times : SFits w32 c.args.e.times = record { sfits = g.1.1.1.1.1.0.1 } in
+      let low : SFits w32 c.args.e.low = search rules in
+      let high : SFits w32 c.args.e.high = search rules in
+      let long : SFits w32 c.args.e.length = search rules in
+      let times : SFits w32 c.args.e.times = search rules in
       (to_z-of_z low, to_z-of_z high, to_z-of_z long, to_z-of_z times)
 
 pub sine_figure-figure-requires : goal.sine_figure-figure-requires
 sine_figure-figure-requires c =
     let e = c.args.e in
     let h = c.requires.1 in
-    let f = held c in
+    let f = held (goal.at.sine_figure-figure-requires c).After-from_i-stype in
     (rw f.0 (sine-low e h), rw f.1 (sine-high e h), rw f.2 (sine-length e h), rw f.3 (sine-times e h))
 
 pub returns : goal.returns
 unfolding sine_drawing
 returns c =
     let e = c.args.e in
-    let f = held-at-2 c in
-    let target : SFits w32 e.target = record { sfits = c.struct_told-1.given.0.1 } in
+    let f = held (goal.at.returns c).After-from_i-stype in
+    let target : SFits w32 e.target = search rules in
     let asked : c.write_of-write.result ≡ write_of c.args.track e.target = c.write_of-write.ensures ∙ ap (write_of c.args.track) (to_z-of_z target) in
     let shape : to_z w64 e.shape ≡ pos e.shape = to_z_pos w64 (omega (arith, sine-shape e c.requires.1)) in
     let kind : c.from_i-stype.result ≡ sine_type (pos e.shape) = kind-told (to_z w64 e.shape) c.from_i-stype.result c.from_i-stype.ensures ∙ ap sine_type shape in

@@ -24,7 +24,7 @@ pub returns : goal.returns
 unfolding wave_drawing
 returns c =
     let A = c.args in
-    let target : SFits w32 A.e.target = record { sfits = c.struct_told-1.given.0.1 } in
+    let target : SFits w32 A.e.target = search rules in
     let asked : c.write_of-write.result ≡ write_of A.track A.e.target = c.write_of-write.ensures ∙ ap (write_of A.track) (to_z-of_z target) in
     let ts = triples (shown A.e.values) in
     let f = c.list_figure-figure.ensures in
@@ -36,6 +36,6 @@ returns c =
             few = wave-few A.e c.requires.1;
           };
       write = asked;
-      pieces = f.1 ∙ ap (λ (x : Mode). wave_triples A.b x ts A.n) c.Mode-of.ensures;
-      cut = f.2 ∙ ap (λ (x : Mode). cut_by x A.n (step_budget A.b)) c.Mode-of.ensures;
+      pieces = f.1 ∙ ap (λ (x : Mode). wave_triples A.b x ts A.n) c.mode_of-mode.ensures;
+      cut = f.2 ∙ ap (λ (x : Mode). cut_by x A.n (step_budget A.b)) c.mode_of-mode.ensures;
     }

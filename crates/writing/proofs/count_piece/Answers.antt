@@ -8,25 +8,6 @@ use Rattle.offers.specs.Pieces.{points_of}
 use Rattle.offers.proofs.Stepping.{left, left-more, left-none, left-all}
 use Rattle.writing.proofs.count_piece.Goals as goal
 
-pub loop-j-init : goal.loop-j-init
-loop-j-init c = let a = c.args in (omega arith, ap (walked (rule_of a.w) a.from) (left-all a.w.freq a.at a.t a.k))
-
-pub point-o-requires : goal.point-o-requires
-point-o-requires c = (c.requires.1, (let h = c.requires.2 in omega arith), c.requires.3)
-
-pub take_offer-s-requires : goal.take_offer-s-requires
-take_offer-s-requires c = (c.requires.0, c.point-o.ensures.1)
-
-pub overflow_add-j : goal.overflow_add-j
-overflow_add-j c =
-    let h = c.requires.2 in
-    let f = c.requires.0.slow in
-    let l = c.requires.1.ends in
-    omega arith
-
-pub loop-j-smaller : goal.loop-j-smaller
-loop-j-smaller c = let f = c.requires.0.some in omega arith
-
 pub loop-j-preserved : goal.loop-j-preserved
 unfolding walked
 loop-j-preserved c =

@@ -14,19 +14,10 @@ use Rattle.offers.proofs.Adding.{walked-append}
 use Rattle.offers.proofs.Running.{Ahead, given, fewer, reach, mild, on, over, offers-more}
 use Rattle.writing.proofs.count_source.Goals as goal
 
-pub loop-t-init : goal.loop-t-init
-loop-t-init c = (record { sound = c.requires.1.sound; tame = c.requires.1.tame; far = omega arith }, refl)
-
-pub next_triple-n-requires : goal.next_triple-n-requires
-next_triple-n-requires c = (c.loop-t.invariant.0.sound, c.requires.1.short)
-
 pub count_piece-walk-requires : goal.count_piece-walk-requires
 count_piece-walk-requires c =
     let m = c.least-k.ensures in
     (c.requires.0, mild c.loop-t.invariant.0 c.next_triple-n.result c.next_triple-n.ensures c.if-n.true c.requires.1.far, omega arith, c.requires.2)
-
-pub overflow_sub-steps : goal.overflow_sub-steps
-overflow_sub-steps c = let m = c.least-k.ensures in omega arith
 
 pub overflow_add-at : goal.overflow_add-at
 overflow_add-at c =

@@ -28,23 +28,18 @@ module _ (c : goal.After-at_least_one-whole) where
 
   turn_is : turn ≡ cut c.args.len
   turn_is =
-      c.length_of-turn.ensures ∙ ap cut (to_z-of_z {w = w64} (sfits_of c.widened.ok) ∙ c.widened.ensures.0 ∙ to_z-of_z c.fits.len)
+      c.length_of-turn.ensures ∙ ap cut (to_z-of_z {w = w64} (sfits_of c.widened.type_inv) ∙ c.widened.ensures.0 ∙ to_z-of_z c.ranges.len)
 
   turns-are : turns ≡ max (cut c.args.times) 1
   turns-are =
       c.at_least_one-turns.ensures
-      ∙ ap (λ (n : ℕ). max n 1) (c.length_of.ensures ∙ ap cut (to_z-of_z {w = w64} (sfits_of c.widened-2.ok) ∙ c.widened-2.ensures.0 ∙ to_z-of_z c.fits.times))
+      ∙ ap (λ (n : ℕ). max n 1) (c.length_of.ensures ∙ ap cut (to_z-of_z {w = w64} (sfits_of c.widened-2.type_inv) ∙ c.widened-2.ensures.0 ∙ to_z-of_z c.ranges.times))
 
   low-is : to_z w64 (of_z w64 c.widened-from.result) ≡ c.args.low
-  low-is = to_z-of_z {w = w64} (sfits_of c.widened-from.type_inv) ∙ c.widened-from.ensures.0 ∙ to_z-of_z c.fits.low
+  low-is = to_z-of_z {w = w64} (sfits_of c.widened-from.type_inv) ∙ c.widened-from.ensures.0 ∙ to_z-of_z c.ranges.low
 
   high_is : to_z w64 (of_z w64 c.widened-to.result) ≡ c.args.high
-  high_is = to_z-of_z {w = w64} (sfits_of c.widened-to.type_inv) ∙ c.widened-to.ensures.0 ∙ to_z-of_z c.fits.high
-
-pub overflow_mul-result : goal.overflow_mul-result
-overflow_mul-result c =
-    let m = long-le c.args.len c.args.times c.requires.2 c.requires.3 in
-    subst (λ (x : ℕ). Fits w64 x) (sym (ap₂ (λ (x y : ℕ). x * y) (turn_is c) (turns-are c))) (let f : Fits w64 (cut c.args.len * max (cut c.args.times) 1) = omega arith in f)
+  high_is = to_z-of_z {w = w64} (sfits_of c.widened-to.type_inv) ∙ c.widened-to.ensures.0 ∙ to_z-of_z c.ranges.high
 
 pub returns : goal.returns
 unfolding sine_piece

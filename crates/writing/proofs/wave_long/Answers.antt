@@ -8,26 +8,23 @@ use Rattle.writing.proofs.Lasting.{lasts-none, lasts-empty, lasts-normal, lasts-
 use borrow.Author.Rules.{rules}
 use Rattle.writing.proofs.wave_long.Goals as goal
 
-abbrev ts_of : tie.Start → List Piece
-ts_of s = triples s.args.numbers.now
-
 pub returns-then-n-eq0 : goal.returns-then-n-eq0
-returns-then-n-eq0 c = c.total_of-own.ensures ∙ lasts-none c.args.mode (ts_of c) c.args.n c.if-n-eq0.true
+returns-then-n-eq0 c = c.total_of-own.ensures ∙ lasts-none c.args.mode (triples c.args.numbers.now) c.args.n c.if-n-eq0.true
 
 pub returns-then-own-eq0 : goal.returns-then-own-eq0
 returns-then-own-eq0 c =
-    c.total_of-own.ensures ∙ lasts-empty c.args.mode (ts_of c) c.args.n c.if-n-eq0.false (sym c.total_of-own.ensures ∙ c.if-own-eq0.true)
+    c.total_of-own.ensures ∙ lasts-empty c.args.mode (triples c.args.numbers.now) c.args.n c.if-n-eq0.false (sym c.total_of-own.ensures ∙ c.if-own-eq0.true)
 
 pub returns-in-Normal : goal.returns-in-Normal
 returns-in-Normal c =
-    c.total_of-own.ensures ∙ lasts-normal (ts_of c) c.args.n ∙ sym (ap (λ (m : Mode). total (triples_of m (ts_of c) c.args.n)) c.in-Normal.is.1)
+    c.total_of-own.ensures ∙ lasts-normal (triples c.args.numbers.now) c.args.n ∙ sym (ap (λ (m : Mode). total (triples_of m (triples c.args.numbers.now) c.args.n)) c.in-Normal.is)
 
 pub returns-in-Expand : goal.returns-in-Expand
 returns-in-Expand c =
-    lasts-expand (ts_of c) c.args.n c.if-n-eq0.false (λ q. c.if-own-eq0.false (c.total_of-own.ensures ∙ q))
-    ∙ sym (ap (λ (m : Mode). total (triples_of m (ts_of c) c.args.n)) c.in-Expand.is.1)
+    lasts-expand (triples c.args.numbers.now) c.args.n c.if-n-eq0.false (λ q. c.if-own-eq0.false (c.total_of-own.ensures ∙ q))
+    ∙ sym (ap (λ (m : Mode). total (triples_of m (triples c.args.numbers.now) c.args.n)) c.in-Expand.is)
 
 pub returns-in-Repeat : goal.returns-in-Repeat
 returns-in-Repeat c =
-    lasts-repeat (ts_of c) c.args.n c.if-n-eq0.false (λ q. c.if-own-eq0.false (c.total_of-own.ensures ∙ q))
-    ∙ sym (ap (λ (m : Mode). total (triples_of m (ts_of c) c.args.n)) c.in-Repeat.is.1)
+    lasts-repeat (triples c.args.numbers.now) c.args.n c.if-n-eq0.false (λ q. c.if-own-eq0.false (c.total_of-own.ensures ∙ q))
+    ∙ sym (ap (λ (m : Mode). total (triples_of m (triples c.args.numbers.now) c.args.n)) c.in-Repeat.is)

@@ -16,22 +16,19 @@ window p q r s = cc
 
 module _ (c : goal.After-widened-number) where
   target_is : to_z w32 (of_z w32 c.args.w.target) ≡ c.args.w.target
-  target_is = to_z-of_z {w = w32} {z = c.args.w.target} (record { sfits = c.struct_told-2-1.given.0.1 })
+  target_is = to_z-of_z {w = w32} {z = c.args.w.target} (search rules)
 
-  start-bits : to_z w64 (of_z w64 c.start_of_lem.result) ≡ c.start_of_lem.result
-  start-bits = to_z-of_z {w = w64} (sfits_of c.start_of_lem.ok)
+  start-bits : to_z w64 (of_z w64 c.start_of-start.result) ≡ c.start_of-start.result
+  start-bits = to_z-of_z {w = w64} (sfits_of c.start_of-start.type_inv)
 
   long-is : to_z w64 c.args.long ≡ pos c.args.long
   long-is = let r = c.requires.1 in to_z_pos w64 (omega arith)
 
-  fit : SFits w64 (c.start_of_lem.result +ℤ pos c.args.long)
+  fit : SFits w64 (c.start_of-start.result +ℤ pos c.args.long)
   fit =
-      let m = c.start_of_lem.ensures.1 in
+      let m = c.start_of-start.ensures.1 in
       let r = c.requires.1 in
-      omega (arith, mag-add c.start_of_lem.result (pos c.args.long))
-
-pub overflow_add-result : goal.overflow_add-result
-overflow_add-result c = rw (start-bits c, long-is c) (fit c)
+      omega (arith, mag-add c.start_of-start.result (pos c.args.long))
 
 pub returns : goal.returns
 unfolding window_of
@@ -39,5 +36,5 @@ returns c =
     window
     (to_z-of_z {w = w64} (sfits_of c.kind_of-kind.type_inv) ∙ c.kind_of-kind.ensures ∙ ap kind_of (target_is c))
     (to_z-of_z {w = w64} (sfits_of c.widened-number.type_inv) ∙ c.widened-number.ensures.0 ∙ target_is c)
-    (start-bits c ∙ c.start_of_lem.ensures.0)
-    (rw (start-bits c, long-is c) (to_z-of_z (fit c) ∙ ap (λ (z : ℤ). z +ℤ pos c.args.long) c.start_of_lem.ensures.0))
+    (start-bits c ∙ c.start_of-start.ensures.0)
+    (rw (start-bits c, long-is c) (to_z-of_z (fit c) ∙ ap (λ (z : ℤ). z +ℤ pos c.args.long) c.start_of-start.ensures.0))

@@ -17,7 +17,7 @@ write_tested-requires c =
 
 pub returns : goal.returns
 returns c =
-    told_of_lem c.args.store c.args.w c.args.b c.args.events.now c.args.count c.write_tested.result (rows_of c.write_tested.new.1.1.1.1.1.0)
+    told_of_lem c.args.store c.args.w c.args.b c.args.events.now c.args.count c.write_tested.result (rows_of c.write_tested.new.events)
     (sine-gives (triples (pos 0 ∷ [])) (sine_piece c.args.stype c.args.low c.args.high c.args.len c.args.times)
     (c.sine_piece-piece.ensures.0 ∙ rw (to_z-of_z c.ranges.low, to_z-of_z c.ranges.high, to_z-of_z c.ranges.len, to_z-of_z c.ranges.times)))
     c.write_tested.ensures

@@ -23,5 +23,5 @@ write_tested-requires c =
 pub returns : goal.returns
 returns c =
     let l = triples c.args.numbers.now in
-    told_of_lem c.args.store c.args.w c.args.b c.args.events.now c.args.count c.write_tested.result (rows_of c.write_tested.new.1.1.1.1.1.0)
+    told_of_lem c.args.store c.args.w c.args.b c.args.events.now c.args.count c.write_tested.result (rows_of c.write_tested.new.events)
     (wave-gives c.args.mode l c.args.n c.start_source-source.ensures) c.write_tested.ensures

@@ -1,9 +1,5 @@
 -- `fill` is safe and ends: one number more than a list may have, and the list stays as long as it was.
-use mathlib.Core.Path.{◌≡◌, refl}
-use Prim.Native.Nat.{◌+◌, ◌-◌}
-use lib.ListN.{length}
-use borrow.Author.Rules.{rules}
-use Rattle.numbers.specs.Limits.{list_limit}
+use mathlib.Core.Path.{refl}
 use Rattle.desk.proofs.lists.fill.Goals as goal
 
 pub loop-i-init : goal.loop-i-init

@@ -1,8 +1,7 @@
 -- `fill` is safe and ends: one number more than a list may have, and the list stays as long as it was.
-use mathlib.Core.Path.{◌≡◌, refl}
+use mathlib.Core.Path.{◌≡◌}
 use Prim.Native.Nat.{◌+◌, ◌-◌}
 use lib.ListN.{length}
-use borrow.Author.Rules.{rules}
 use Rattle.numbers.specs.Limits.{list_limit}
 use Rattle.desk.proofs.lists.fill.Given as goal
 

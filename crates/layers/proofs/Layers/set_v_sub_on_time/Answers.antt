@@ -1,12 +1,11 @@
 -- `set_v_sub_on_time` lays the list, tests, and stores a curve from the delayed time on. A list that was laid is tested as the lent one.
-use mathlib.Core.Path.{◌≡◌, sym, ap, ap₂, ◌∙◌}
+use mathlib.Core.Path.{◌≡◌, sym, ap, ◌∙◌}
 use lib.IntN.{◌+ℤ◌}
 use borrow.Author.Rules.{rules}
 use borrow.Author.Tests.{le-leb, lt-leb}
 use Rattle.laws.proofs.Tests.{both}
 use Rattle.numbers.specs.Ranges.{is_time, is_length}
 use Rattle.counted.specs.declared.Listed.{Listed}
-use Rattle.counted.specs.Numbers.{numbers}
 use Rattle.counted.specs.Curves.{ok_curve}
 use Rattle.counted.proofs.Counted.{listed-fits, listed-list}
 use Rattle.reserved.specs.Reserve.{curve_from}

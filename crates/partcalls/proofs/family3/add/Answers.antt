@@ -2,7 +2,6 @@
 use native.Mathlib.Omega.{arith}
 use borrow.Author.Tests.{leb-false}
 use Rattle.eventlist.proofs.EventRows.{length-rows_of}
-use borrow.Author.Rules.{rules}
 use Rattle.partcalls.proofs.family3.add.Goals as goal
 
 pub append-n-requires : goal.append-n-requires

@@ -1,9 +1,8 @@
 -- `remove` is safe: a list that is one holds its count of records, and a survey says what the window takes.
+use mathlib.Core.Path.{sym, ◌∙◌}
 use Prim.Native.Nat.{◌≤◌}
-use borrow.Author.Rules.{rules}
 use borrow.Author.Tests.{not-false}
 use lib.ListN.{length}
-use Rattle.laws.proofs.Tests.{yes}
 use Rattle.eventlist.specs.Rows.{rows_of}
 use Rattle.eventlist.specs.Windows.{windows_of}
 use Rattle.eventlist.proofs.Sound.{list-within}
@@ -13,12 +12,12 @@ use Rattle.partcalls.proofs.family3.remove.Goals as goal
 within : (c : goal.After-windows-1) → c.args.count ≤ length (rows_of c.args.events.now)
 within c =
     let s = c.args in
-    list-within s.events.now s.count (yes c.list_ok.ensures c.if-not-list_ok.false)
+    list-within s.events.now s.count (sym c.list_ok.ensures ∙ c.if-not-list_ok.false)
 
 within-at-2 : (c : goal.After-windows-2-1) → c.args.count ≤ length (rows_of c.args.events.now)
 within-at-2 c =
     let s = c.args in
-    list-within s.events.now s.count (yes c.list_ok.ensures c.if-not-list_ok.false)
+    list-within s.events.now s.count (sym c.list_ok.ensures ∙ c.if-not-list_ok.false)
 
 pub survey-seen-requires : goal.survey-seen-requires
 survey-seen-requires c = within c

@@ -1,8 +1,7 @@
 -- `fill_input` is safe and ends: a byte is put at a time, and the input stays as long as it was.
-use mathlib.Core.Path.{◌≡◌, refl}
+use mathlib.Core.Path.{◌≡◌}
 use Prim.Native.Nat.{◌-◌}
 use lib.ListN.{length}
-use borrow.Author.Rules.{rules}
 use Rattle.partcalls.proofs.input.fill_input.Given as goal
 
 abbrev pub invariant-loop-i : goal.invariant-loop-i

@@ -1,9 +1,7 @@
 -- `fill_output` is safe and ends: a byte is below 256, and the output stays as long as it was.
-use mathlib.Core.Path.{◌≡◌, refl}
+use mathlib.Core.Path.{◌≡◌}
 use Prim.Native.Nat.{◌-◌, ◌<◌}
-use native.Mathlib.Omega.{arith}
 use lib.ListN.{length}
-use borrow.Author.Rules.{rules}
 use Rattle.partcalls.proofs.output.fill_output.Given as goal
 
 abbrev pub invariant-loop-i : goal.invariant-loop-i

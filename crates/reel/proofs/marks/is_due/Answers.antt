@@ -1,5 +1,4 @@
 use Rattle.reel.specs.Marks.{is_due}
-use borrow.Author.Rules.{rules}
 use Rattle.reel.proofs.marks.is_due.Goals as goal
 
 pub returns : goal.returns

@@ -1,6 +1,5 @@
 use Rattle.numbers.proofs.Tested.{read_back}
 use Rattle.reel.specs.Records.{is_count_by, is_count}
-use borrow.Author.Rules.{rules}
 use Rattle.reel.proofs.numerals.is_count.Goals as goal
 
 pub returns : goal.returns

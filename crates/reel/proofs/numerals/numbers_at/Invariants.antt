@@ -1,20 +1,12 @@
 -- `numbers_at` lays the numbers over the zeros of an empty list, one a turn (the law Over). The measure is what is left of them.
-use mathlib.Core.Path.{◌≡◌, ap, sym, ◌∙◌}
-use mathlib.Core.List.{List, ◌++◌}
-use Prim.Native.Nat.{◌+◌, ◌-◌, ◌≤◌, ◌<◌}
-use native.Mathlib.Omega.{arith}
-use lib.IntN.{ℤ, pos}
-use lib.ListN.{length, drop}
-use mir.Syntax.{w32}
-use mir.Facts.{to_z-of_z}
-use borrow.Author.Rules.{rules, sfits_of}
+use mathlib.Core.Path.{◌≡◌}
+use mathlib.Core.List.{List}
+use Prim.Native.Nat.{◌-◌, ◌≤◌}
+use lib.IntN.{ℤ}
 use Rattle.laws.specs.Lists.{over}
-use Rattle.laws.proofs.Over.{over-more, over-all}
 use Rattle.counted.specs.declared.Numbers.{Numbers}
 use Rattle.counted.specs.Numbers.{zeros}
-use Rattle.counted.proofs.Counted.{room}
 use Rattle.reel.specs.Numbers.{numbers_at}
-use Rattle.reel.proofs.Listing.{length-numbers, numbers-at}
 use Rattle.reel.proofs.numerals.numbers_at.Given as goal
 
 abbrev pub uncounted : List ℤ → Numbers

@@ -1,9 +1,8 @@
 use mathlib.Core.Path.{ap, ◌∙◌, sym}
 use mir.Syntax.{w32}
 use mir.Facts.{to_z-of_z}
-use borrow.Author.Rules.{sfits_of, rules}
+use borrow.Author.Rules.{sfits_of}
 use Rattle.laws.specs.Integers.{cut}
-use Rattle.laws.proofs.Tests.{no, yes}
 use Rattle.reel.specs.Records.{count_at}
 use Rattle.reel.proofs.records.count_at.Goals as goal
 

@@ -6,8 +6,7 @@ use native.Mathlib.Omega.{arith}
 use lib.ListN.{length}
 use mir.Syntax.{w32}
 use mir.Facts.{to_z-of_z}
-use borrow.Author.Rules.{sfits_of, rules}
-use Rattle.laws.proofs.Tests.{no, yes}
+use borrow.Author.Rules.{sfits_of}
 use Rattle.reel.specs.Marks.{is_due, has_list, width_of}
 use Rattle.reel.specs.Records.{behind}
 use Rattle.reel.proofs.Reading.{due-some, room_of, not-due, no-list, asked-list}

@@ -11,7 +11,6 @@ use Rattle.laws.proofs.Tests.{is_at}
 use Rattle.numbers.specs.Ranges.{is_target}
 use Rattle.reel.specs.Records.{is_count}
 use Rattle.reel.proofs.Reading.{count-few, no_target, no-count, short-list, whole-list}
-use borrow.Author.Rules.{rules}
 use Rattle.reel.proofs.records.list_fault.Goals as goal
 
 module _ (c : goal.After-count_of-k) where

@@ -1,7 +1,6 @@
 -- `mark_at`: each return hands its test to the definition's case (`unmarked`, `marked`).
 use mathlib.Core.Path.{◌≡◌, refl, ap, ◌∙◌}
 use native.Mathlib.Omega.{arith}
-use borrow.Author.Rules.{rules}
 use Rattle.reel.specs.Marks.{mark_of}
 use Rattle.reel.specs.Numbers.{letters_at}
 use Rattle.reel.proofs.Reading.{unmarked, marked}

@@ -3,7 +3,6 @@ use mathlib.Core.Path.{sym, ◌∙◌}
 use native.Mathlib.Omega.{arith}
 use Rattle.numbers.specs.Limits.{list_limit}
 use Rattle.reel.proofs.Reading.{Fits, fault-none, record-refused, record-read}
-use borrow.Author.Rules.{rules}
 use Rattle.reel.proofs.records.record_at.Goals as goal
 
 module _ (c : goal.Else-code-ne0) where

@@ -1,7 +1,7 @@
 use mathlib.Core.Path.{◌∙◌}
 use mir.Syntax.{w32}
 use mir.Facts.{to_z-of_z}
-use borrow.Author.Rules.{sfits_of, rules}
+use borrow.Author.Rules.{sfits_of}
 use Rattle.reel.proofs.Reading.{sound-by}
 use Rattle.reel.proofs.records.sound_at.Goals as goal
 

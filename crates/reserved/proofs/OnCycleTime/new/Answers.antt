@@ -2,12 +2,10 @@
 use mathlib.Core.Path.{◌≡◌, sym, ap, ◌∙◌}
 use mathlib.Core.Bool.{true, false}
 use mathlib.Core.List.{List}
-use borrow.Author.Rules.{rules}
 use lib.Dec.{ltb}
 use lib.IntN.{ℤ}
 use lib.ListN.{length}
 use mir.Facts.{to_z-of_z}
-use Rattle.laws.proofs.Tests.{no, yes}
 use Rattle.numbers.specs.Limits.{list_limit}
 use Rattle.counted.specs.declared.Listed.{Listed}
 use Rattle.counted.specs.declared.Numbers.{Numbers}
@@ -25,46 +23,41 @@ made : (s n : ℤ) (v : List ℤ) → ltb list_limit (length v) ≡ false → ok
 unfolding new_cycle_time
 made s n v l h = rw (l, h)
 
-abbrev elsewhere : tie.After-cycle-ok → tie.Else1
-elsewhere c = c.before.before
-
 -- the list is within its limit
 module _ (c : goal.Then-not-cycle_ok) where
   fits : ltb list_limit (length c.args.values.now) ≡ false
-  fits = listed-fits c.args.values.now (ap (λ (l : Listed). l.code) (sym c.Numbers-of.ensures) ∙ c.if-listed-ne0.false)
+  fits = listed-fits c.args.values.now (ap (λ (l : Listed). l.code) (sym c.numbers_of-listed.ensures) ∙ c.if-listed-ne0.false)
 
-  list-is : c.Numbers-of.result.list ≡ numbers c.args.values.now
-  list-is = ap (λ (l : Listed). l.list) c.Numbers-of.ensures ∙ listed-list c.args.values.now fits
+  list-is : c.numbers_of-listed.result.list ≡ numbers c.args.values.now
+  list-is = ap (λ (l : Listed). l.list) c.numbers_of-listed.ensures ∙ listed-list c.args.values.now fits
 
 -- the list is within its limit
 module _ (c : goal.Else-not-cycle_ok) where
   fits-at-2 : ltb list_limit (length c.args.values.now) ≡ false
-  fits-at-2 = listed-fits c.args.values.now (ap (λ (l : Listed). l.code) (sym c.Numbers-of.ensures) ∙ c.if-listed-ne0.false)
+  fits-at-2 = listed-fits c.args.values.now (ap (λ (l : Listed). l.code) (sym c.numbers_of-listed.ensures) ∙ c.if-listed-ne0.false)
 
-  list-is-at-2 : c.Numbers-of.result.list ≡ numbers c.args.values.now
-  list-is-at-2 = ap (λ (l : Listed). l.list) c.Numbers-of.ensures ∙ listed-list c.args.values.now fits-at-2
+  list-is-at-2 : c.numbers_of-listed.result.list ≡ numbers c.args.values.now
+  list-is-at-2 = ap (λ (l : Listed). l.list) c.numbers_of-listed.ensures ∙ listed-list c.args.values.now fits-at-2
 
-tested : (c : goal.Then-not-cycle_ok) → c.cycle_ok.result ≡ ok_cycle (cycle_time (s (elsewhere c)).args.start (s (elsewhere c)).args.length (numbers (s (elsewhere c)).args.values.now))
-tested c = let f = (s (elsewhere c)).fits in c.cycle_ok.ensures ∙ ap ok_cycle (same (to_z-of_z f.start) (to_z-of_z f.length) (list-is (elsewhere c)))
+tested : (c : goal.Then-not-cycle_ok) → c.cycle_ok.result ≡ ok_cycle (cycle_time c.args.start c.args.length (numbers c.args.values.now))
+tested c = let f = c.ranges in c.cycle_ok.ensures ∙ ap ok_cycle (same (to_z-of_z f.start) (to_z-of_z f.length) (list-is c))
 
-tested-at-2 : (c : goal.Else-not-cycle_ok) → c.cycle_ok.result ≡ ok_cycle (cycle_time (s (elsewhere c)).args.start (s (elsewhere c)).args.length (numbers (s (elsewhere c)).args.values.now))
-tested-at-2 c = let f = (s (elsewhere c)).fits in c.cycle_ok.ensures ∙ ap ok_cycle (same (to_z-of_z f.start) (to_z-of_z f.length) (list-is-at-2 (elsewhere c)))
+tested-at-2 : (c : goal.Else-not-cycle_ok) → c.cycle_ok.result ≡ ok_cycle (cycle_time c.args.start c.args.length (numbers c.args.values.now))
+tested-at-2 c = let f = c.ranges in c.cycle_ok.ensures ∙ ap ok_cycle (same (to_z-of_z f.start) (to_z-of_z f.length) (list-is-at-2 c))
 
 pub returns-then-listed-ne0 : goal.returns-then-listed-ne0
 unfolding new_cycle_time
 returns-then-listed-ne0 c =
     let v = c.args.values.now in
-    rw (c.no_cycle_time-none.ensures, listed-long v (rw c.Numbers-of.ensures at c.if-listed-ne0.true))
+    rw (c.no_cycle_time-none.ensures, listed-long v (rw c.numbers_of-listed.ensures at c.if-listed-ne0.true))
 
 pub returns-then-not-cycle_ok : goal.returns-then-not-cycle_ok
 unfolding new_cycle_time
 returns-then-not-cycle_ok c =
-    let x = elsewhere c in
-    rw ((n x).before.no-cycle-time.ensures, fits x, no (tested c) c.if-not-cycle_ok.true)
+    rw (c.no_cycle_time-none.ensures, fits c, (sym (tested c) ∙ c.if-not-cycle_ok.true))
 
 pub returns : goal.returns
 returns c =
-    let x = elsewhere c in
-    let f = (s x).fits in
-    ap (λ (a : OnCycleTime). record { code = 0; cycle = a }) (same (to_z-of_z f.start) (to_z-of_z f.length) (list-is-at-2 x))
-    ∙ made (s x).args.start (s x).args.length (s x).args.values.now (fits-at-2 x) (yes (tested-at-2 c) c.if-not-cycle_ok.false)
+    let f = c.ranges in
+    ap (λ (a : OnCycleTime). record { code = 0; cycle = a }) (same (to_z-of_z f.start) (to_z-of_z f.length) (list-is-at-2 c))
+    ∙ made c.args.start c.args.length c.args.values.now (fits-at-2 c) (sym (tested-at-2 c) ∙ c.if-not-cycle_ok.false)

@@ -3,7 +3,7 @@ use mathlib.Core.Path.{◌∙◌}
 use mir.Syntax.{w32}
 use mir.Val.{SFits}
 use mir.Facts.{to_z-of_z}
-use borrow.Author.Rules.{rules, sfits_of}
+use borrow.Author.Rules.{sfits_of}
 use borrow.Author.Tests.{eq-eqb, ne_eqb}
 use Rattle.reserved.specs.Reserve.{timed}
 use Rattle.reserved.proofs.Reserves.{reserve-start, reserve-curve}

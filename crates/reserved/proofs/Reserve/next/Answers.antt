@@ -4,7 +4,7 @@ use native.Mathlib.Omega.{arith}
 use mir.Syntax.{w32}
 use mir.Val.{SFits}
 use mir.Facts.{to_z-of_z}
-use borrow.Author.Rules.{rules, sfits_of}
+use borrow.Author.Rules.{sfits_of}
 use borrow.Author.Tests.{eq-eqb, ne_eqb}
 use Rattle.counted.specs.declared.Got.TheVariants.{Value, Nothing}
 use Rattle.counted.specs.Numbers.{got_at}
@@ -23,7 +23,7 @@ number_at-requires c = reserve-count c.args.self c.requires
 pub returns-in_default : goal.returns-in_default
 unfolding noted
 returns-in_default c =
-    let e : got_at c.args.self.values (place c.args.self) ≡ Nothing = ap (got_at c.args.self.values) (sym c.next_place-i.ensures) ∙ sym c.number_at.ensures ∙ c.in_default.is.1 in
+    let e : got_at c.args.self.values (place c.args.self) ≡ Nothing = ap (got_at c.args.self.values) (sym c.next_place-i.ensures) ∙ sym c.number_at.ensures ∙ c.in_default.is in
     simp (to_z-of_z c.ranges.def, eq-eqb _ _ c.if-self-ne-ON_NOTE.false, e, c.idle_reserve-gone.ensures)
 
 pub overflow_add-self : goal.overflow_add-self
@@ -37,6 +37,6 @@ overflow_add-self c =
 pub returns : goal.returns
 unfolding noted
 returns c =
-    let f : SFits w32 c.in-Value.value.0.0 = sfits_of c.known_told-1-own.given.0.1 in
-    let e : got_at c.args.self.values (place c.args.self) ≡ Value c.in-Value.value.0.0 = ap (got_at c.args.self.values) (sym c.next_place-i.ensures) ∙ sym c.number_at.ensures ∙ c.in-Value.value.1 in
+    let f : SFits w32 c.in-Value.value = sfits_of c.in-Value.known_told-1-own.given.0.1 in
+    let e : got_at c.args.self.values (place c.args.self) ≡ Value c.in-Value.value = ap (got_at c.args.self.values) (sym c.next_place-i.ensures) ∙ sym c.number_at.ensures ∙ c.in-Value.is in
     simp (to_z-of_z f, eq-eqb _ _ c.if-self-ne-ON_NOTE.false, c.next_place-i.ensures, e)

@@ -1,5 +1,5 @@
 -- `as_i32`: what is neither below nor above fits.
-use Rattle.std.proofs.Common.{arith, w64, to_z, of_z, rules}
+use Rattle.std.proofs.Common.{arith, w64, to_z, of_z}
 use Rattle.laws.proofs.Signed.{within-lt}
 use Rattle.script.proofs.args.as_i32.Goals as goal
 

@@ -1,5 +1,5 @@
 -- `as_u32`: what is neither below 0 nor above fits.
-use Rattle.std.proofs.Common.{arith, w64, to_z, of_z, rules}
+use Rattle.std.proofs.Common.{arith, w64, to_z, of_z}
 use Rattle.script.proofs.Casts.{up_to}
 use Rattle.script.proofs.args.as_u32.Goals as goal
 

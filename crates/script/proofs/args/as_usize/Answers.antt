@@ -1,5 +1,5 @@
 -- `as_usize`: what is not below 0 fits.
-use Rattle.std.proofs.Common.{arith, to_z-of_z, rules}
+use Rattle.std.proofs.Common.{arith, to_z-of_z}
 use Rattle.script.proofs.Casts.{from-none}
 use Rattle.script.proofs.args.as_usize.Goals as goal
 

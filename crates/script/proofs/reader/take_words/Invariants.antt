@@ -1,5 +1,5 @@
 -- `take_words` is safe and ends: so many words are left, and both buffers stay as long as they were.
-use Rattle.std.proofs.Common.{◌≡◌, ◌-◌, length, refl, rules}
+use Rattle.std.proofs.Common.{◌≡◌, ◌-◌, length}
 use Rattle.script.proofs.reader.take_words.Given as goal
 
 abbrev pub invariant-loop-i : goal.invariant-loop-i

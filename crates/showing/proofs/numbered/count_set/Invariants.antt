@@ -1,6 +1,5 @@
 -- `count_set` is safe and ends: so many options are left.
 use Prim.Native.Nat.{◌-◌, ◌≤◌}
-use borrow.Author.Rules.{rules}
 use Rattle.showing.proofs.numbered.count_set.Given as goal
 
 abbrev pub invariant-loop-key : goal.invariant-loop-key

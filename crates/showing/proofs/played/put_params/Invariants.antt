@@ -1,12 +1,6 @@
--- `put_params` is safe and ends: so many parameters are left, and the buffer stays as long as it was.
-use mathlib.Core.Path.{◌≡◌, refl}
+-- `put_params` is safe and ends: so many parameters are left.
 use Prim.Native.Nat.{◌-◌}
-use lib.ListN.{length}
-use borrow.Author.Rules.{rules}
 use Rattle.showing.proofs.played.put_params.Given as goal
-
-abbrev pub invariant-loop-i : goal.invariant-loop-i
-invariant-loop-i l = length l.out ≡ length l.initial.out
 
 abbrev pub decreases-loop-i : goal.decreases-loop-i
 decreases-loop-i l = 5 - l.i

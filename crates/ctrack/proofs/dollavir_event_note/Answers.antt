@@ -1,0 +1,7 @@
+-- `dollavir_event_note` is `events::Event::note`. Written by tools/ctrack.py.
+use borrow.Author.Rules.{rules}
+use mir.Facts.{to_z-of_z}
+use Rattle.ctrack.proofs.dollavir_event_note.Goals as goal
+
+pub returns : goal.returns
+returns c = rw (to_z-of_z c.ranges.time, to_z-of_z c.ranges.channel, to_z-of_z c.ranges.number, to_z-of_z c.ranges.len, to_z-of_z c.ranges.vel) at c.note.ensures

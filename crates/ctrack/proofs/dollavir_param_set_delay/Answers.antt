@@ -1,0 +1,13 @@
+-- `dollavir_param_set_delay` is `params::NoteParam::set_delay`: what it answers and leaves is what that says.
+use Rattle.params.specs.declared.ParamAnswer.{ParamAnswer}
+use mathlib.Core.Path.{ap, ◌∙◌}
+use mir.Facts.{to_z-of_z}
+use Rattle.ctrack.proofs.dollavir_param_set_delay.Goals as goal
+
+pub returns : goal.returns
+returns c =
+    let e = rw (to_z-of_z c.ranges.delay) at c.set_delay-r.ensures in
+    record {
+      code = c.param_answer_code.ensures ∙ ap (λ (a : ParamAnswer). a.code) e;
+      param = c.param_answer_param.ensures ∙ ap (λ (a : ParamAnswer). a.param) e;
+    }

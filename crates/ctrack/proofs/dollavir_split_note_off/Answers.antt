@@ -1,0 +1,8 @@
+-- `dollavir_split_note_off` is `notes::split_note_off`. Written by tools/ctrack.py.
+use borrow.Author.Rules.{rules}
+use mathlib.Core.Path.{ap}
+use Rattle.eventlist.specs.declared.Taken.{Taken}
+use Rattle.ctrack.proofs.dollavir_split_note_off.Goals as goal
+
+pub returns : goal.returns
+returns c = let e = c.split_note_off-r.ensures in record { code = ap (λ (t : Taken). t.code) e.0; count = ap (λ (t : Taken). t.count) e.0; events = e.1 }

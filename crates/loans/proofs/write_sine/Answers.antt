@@ -1,0 +1,11 @@
+-- `write_sine` puts back what the call by value answers.
+use mathlib.Core.Path.{ap}
+use mir.Facts.{to_z-of_z}
+use Rattle.writing.specs.declared.Outcome.{Outcome}
+use Rattle.loans.specs.Lent.{told}
+use Rattle.loans.proofs.write_sine.Goals as goal
+
+pub returns : goal.returns
+returns c =
+    let e = rw (to_z-of_z c.ranges.target, to_z-of_z c.ranges.low, to_z-of_z c.ranges.high, to_z-of_z c.ranges.len, to_z-of_z c.ranges.times) at c.write_sine-r.ensures in
+    record { answer = ap told e.answer; spent = ap (λ (o : Outcome). o.budget) e.answer; left = e.left }
