@@ -1,6 +1,6 @@
 -- 01, "The tape program": the call that each record names, and what it leaves. Everything is said by the calls' own
 -- definitions; a list is handed to a call as the record has it.
-use Rattle.std.specs.Prelude.{cond, List, ℕ, eqb, ℤ, pos}
+use Rattle.std.specs.Prelude.{cond, List, ℕ, eqb, ℤ}
 use Rattle.std.specs.Int.{w32}
 use Rattle.std.proofs.Common.{of_z}
 use Rattle.numbers.specs.Limits.{places}

@@ -35,7 +35,6 @@ use Rattle.reel.specs.declared.records.Record.{Record}
 use Rattle.reel.specs.Records.{record_at}
 use Rattle.lines.specs.Lines.{events_word, bytes_word, over_word, seed_word, refused_word, at_word, pair_text, first_text, line_text, refusal_text, done_text, newline, page_long, printable, end_text}
 use Rattle.carrying.specs.declared.State.{State}
-use Rattle.carrying.specs.declared.Carried.{Carried}
 use Rattle.carrying.specs.Carry.{make_track, make_budget, move_to, set_freqs, curve_of, set_cycle, turn_answer, turn_list, Left, carried_as, carried}
 use Rattle.spool.specs.declared.Run.{Run}
 use Rattle.spool.specs.Play.{Pass, pass, blank_state, begun, refused, past, after_call, step_by, step_of, play_from_by, play_from, ended, play_by, play_of, printed_by, printed}
@@ -68,7 +67,7 @@ module _ (n : ℕ) where
       where
         go : (m : ℕ) → cycle_refusal a size cs until b l count ≡ m → Holds n (cycled_of a size cs until b l count).count (cycled_list a size cs until b l count)
         go zero e =
-            rw (turns.answer a size cs until b l count e, turns.list_left a size cs until b l count e)
+            rw (turns.answer a size cs until b l count e, turns.list_left_lem a size cs until b l count e)
             (put_holds count l (left_by a cs until b (events_of l count)).events h (turns.roomy a size cs until b l count e))
         go (suc m) e =
             let r = turns.refused a size cs until b l count (λ z. omega (arith, e, z)) in

@@ -4,10 +4,10 @@
 --     unread, refused-call, done-call   a step's three ways out
 --     blank-by, begun-by, past_by, missing, complete   a run, put together
 --     moves                             a step gets on, and counts at most one record
-use mathlib.Core.Path.{◌≡◌, refl, ap, sym, ◌∙◌}
+use mathlib.Core.Path.{◌≡◌, refl, ap, ◌∙◌}
 use mathlib.Core.Bool.{Bool, true, false, cond, ◌&&◌}
 use mathlib.Core.List.{List}
-use Prim.Native.Nat.{ℕ, ◌+◌, ◌*◌, ◌≤◌, ◌<◌}
+use Prim.Native.Nat.{ℕ, ◌+◌, ◌≤◌, ◌<◌}
 use native.Mathlib.Omega.{arith}
 use lib.Dec.{eqb, ltb}
 use lib.IntN.{ℤ, pos}
@@ -26,7 +26,7 @@ use Rattle.reel.specs.declared.records.Record.{Record}
 use Rattle.reel.specs.Records.{behind, mark_at, count_at, record_by, record_at}
 use Rattle.reel.specs.Places.{more_due}
 use Rattle.reel.proofs.Listing.{length-numbers}
-use Rattle.reel.proofs.Reading.{Fits, fault-none}
+use Rattle.reel.proofs.Reading.{fault-none}
 use Rattle.reel.proofs.Reaching.{read_none, record-next}
 use Rattle.carrying.specs.declared.State.{State}
 use Rattle.carrying.specs.declared.Carried.{Carried}

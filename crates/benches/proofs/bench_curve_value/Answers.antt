@@ -20,4 +20,6 @@ small r x h n =
 
 pub curve_value-requires-clause-low_bound : goal.curve_value-requires-clause-low_bound
 curve_value-requires-clause-low_bound c =
-    (small _ _ c.widened-a.ensures (sym c.is_number.ensures ∙ c.if-not-is_number.false), small _ _ c.widened-b.ensures (sym c.is_number-2.ensures ∙ c.if-not-is_number-2.false))
+    let one = sym c.is_number.ensures ∙ c.if-not-is_number.false in
+    let two = sym c.is_number-2.ensures ∙ c.if-not-is_number-2.false in
+    (small _ _ c.widened-a.ensures one, small _ _ c.widened-b.ensures two)

@@ -1,5 +1,4 @@
 use mir.Facts.{to_z-of_z}
-use borrow.Author.Rules.{rules}
 use Rattle.carrying.proofs.Carrying.{first-refused, second-refused, both-set}
 use Rattle.carrying.proofs.both_freqs.Goals as goal
 

@@ -2,7 +2,6 @@ use Rattle.reel.specs.declared.marks.Mark.TheVariants.{Track, Budget, Time, Freq
 use Rattle.carrying.proofs.Carrying.{by-mark}
 use mathlib.Core.Path.{refl}
 use Rattle.carrying.specs.Carry.{carried_as}
-use borrow.Author.Rules.{rules}
 use Rattle.carrying.proofs.carry_out.Goals as goal
 
 pub returns-in-Track : goal.returns-in-Track

@@ -3,7 +3,6 @@ use lib.IntN.{ℤ}
 use native.Mathlib.Omega.{arith}
 use mir.Syntax.{w32, w64}
 use Rattle.laws.proofs.Fitting.{back}
-use borrow.Author.Rules.{rules}
 use Rattle.carrying.specs.Carry.{cut_to}
 use Rattle.cutting.specs.Cuts.{plain, cut_taken, cut_left}
 use Rattle.carrying.proofs.cut.Goals as goal

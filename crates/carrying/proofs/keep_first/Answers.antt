@@ -1,6 +1,5 @@
 use mathlib.Core.Path.{ap, sym, ◌∙◌}
 use mir.Facts.{to_z-of_z}
-use borrow.Author.Rules.{rules}
 use lib.Seq.{length-take-le}
 use Rattle.carrying.specs.Carry.{kept_to}
 use Rattle.carrying.proofs.keep_first.Goals as goal

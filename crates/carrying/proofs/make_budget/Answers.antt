@@ -2,7 +2,6 @@ use mathlib.Core.Path.{ap, ap₂, ◌∙◌}
 use native.Mathlib.Omega.{arith}
 use mir.Syntax.{w32}
 use Rattle.laws.proofs.Fitting.{back}
-use borrow.Author.Rules.{rules}
 use Rattle.budget.specs.Budgets.{new_budget}
 use Rattle.carrying.specs.Carry.{budget_answered, make_budget}
 use Rattle.carrying.proofs.make_budget.Goals as goal

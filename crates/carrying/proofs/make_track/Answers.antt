@@ -2,7 +2,6 @@ use mathlib.Core.Path.{ap, ◌∙◌}
 use native.Mathlib.Omega.{arith}
 use mir.Syntax.{w32}
 use Rattle.laws.proofs.Fitting.{back}
-use borrow.Author.Rules.{rules}
 use Rattle.carrying.specs.Carry.{track_answered, make_track}
 use Rattle.carrying.proofs.make_track.Goals as goal
 

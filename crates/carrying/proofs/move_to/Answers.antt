@@ -2,7 +2,6 @@ use mathlib.Core.Path.{ap, ◌∙◌}
 use native.Mathlib.Omega.{arith}
 use mir.Syntax.{w32, w64}
 use Rattle.laws.proofs.Fitting.{back}
-use borrow.Author.Rules.{rules}
 use Rattle.carrying.specs.Carry.{track_answered, move_to}
 use Rattle.state.specs.Calls.{set_timepos}
 use Rattle.carrying.proofs.move_to.Goals as goal

@@ -2,7 +2,6 @@ use mathlib.Core.Path.{ap, ◌∙◌}
 use native.Mathlib.Omega.{arith}
 use mir.Syntax.{w32}
 use Rattle.laws.proofs.Fitting.{back}
-use borrow.Author.Rules.{rules}
 use Rattle.carrying.specs.Carry.{track_answered, set_freqs}
 use Rattle.carrying.proofs.set_freqs.Goals as goal
 

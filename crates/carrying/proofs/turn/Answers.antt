@@ -3,7 +3,6 @@ use lib.IntN.{ℤ}
 use native.Mathlib.Omega.{arith}
 use mir.Syntax.{w32, w64}
 use Rattle.laws.proofs.Fitting.{back}
-use borrow.Author.Rules.{rules}
 use Rattle.carrying.specs.Carry.{cycled_to, turn_answer, turn_list}
 use Rattle.cycling.specs.Calls.{cycled_of, cycled_list}
 use Rattle.numbers.specs.Limits.{places}

@@ -1,5 +1,4 @@
 use Rattle.spool.proofs.Steps.{begun-by}
-use borrow.Author.Rules.{rules}
 use Rattle.spool.proofs.begin.Goals as goal
 
 pub returns : goal.returns

@@ -1,5 +1,4 @@
 use Rattle.spool.proofs.Steps.{blank-by}
-use borrow.Author.Rules.{rules}
 use Rattle.spool.proofs.blank_state.Goals as goal
 
 pub returns : goal.returns

@@ -1,6 +1,5 @@
 use mathlib.Core.Path.{◌∙◌}
 use Rattle.spool.proofs.Steps.{missing, complete}
-use borrow.Author.Rules.{rules}
 use Rattle.spool.proofs.end.Goals as goal
 
 pub returns-then-run : goal.returns-then-run

@@ -1,5 +1,4 @@
 use borrow.Author.Tests.{lt-ltb, le-ltb}
-use borrow.Author.Rules.{rules}
 use Rattle.spool.proofs.more_due.Goals as goal
 
 pub returns-then-due-lt2 : goal.returns-then-due-lt2

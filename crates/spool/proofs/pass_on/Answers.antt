@@ -1,5 +1,4 @@
 use Rattle.spool.proofs.Steps.{past_by}
-use borrow.Author.Rules.{rules}
 use Rattle.spool.proofs.pass_on.Goals as goal
 
 pub returns : goal.returns

@@ -1,22 +1,12 @@
 -- `play`: the loop keeps that playing on gives what playing from the start gives (`Going`). The measure is what is left of the tape.
-use mathlib.Core.Path.{◌≡◌, refl, ap, ◌∙◌}
-use Prim.Native.Nat.{◌-◌}
+use mathlib.Core.Path.{refl, ap, ◌∙◌}
 use native.Mathlib.Omega.{arith}
 use lib.ListN.{length}
 use Rattle.spool.specs.declared.Run.{Run}
 use Rattle.spool.specs.Play.{pass, begun, refused, ended}
 use Rattle.spool.proofs.Steps.{parts, joined, moves}
-use Rattle.spool.proofs.Playing.{Going, going_start, going_step, going_end, too_long, played}
+use Rattle.spool.proofs.Playing.{going_start, going_step, going_end, too_long, played}
 use Rattle.spool.proofs.play.Goals as goal
-
-pub begin-run-requires : goal.begin-run-requires
-begin-run-requires c = tt
-
-pub refuse-requires : goal.refuse-requires
-refuse-requires c = tt
-
-pub end-requires : goal.end-requires
-end-requires c = tt
 
 pub returns-then-n-gt-TAPE_LIMIT : goal.returns-then-n-gt-TAPE_LIMIT
 returns-then-n-gt-TAPE_LIMIT c =
@@ -47,9 +37,6 @@ loop-run-preserved c =
     let a = c.args in
     let t = c.step-run in
     (refl, going_step a.tape.now (pass begun a.events.now) l.run l.events l.invariant.1 c.loop-run-test.true (pass t.result t.new.events) (joined t.ensures.0 t.ensures.1) t.auto.events)
-
-pub end-requires-2 : goal.end-requires-2
-end-requires-2 c = tt
 
 pub shape_of-events : goal.shape_of-events
 shape_of-events c = c.loop-run.invariant.1.long

@@ -1,12 +1,9 @@
 -- `play`: the loop keeps that playing on gives what playing from the start gives (`Going`). The measure is what is left of the tape.
-use mathlib.Core.Path.{◌≡◌, refl, ap, ◌∙◌}
+use mathlib.Core.Path.{◌≡◌}
 use Prim.Native.Nat.{◌-◌}
-use native.Mathlib.Omega.{arith}
 use lib.ListN.{length}
-use Rattle.spool.specs.declared.Run.{Run}
-use Rattle.spool.specs.Play.{pass, begun, refused, ended}
-use Rattle.spool.proofs.Steps.{parts, joined, moves}
-use Rattle.spool.proofs.Playing.{Going, going_start, going_step, going_end, too_long, played}
+use Rattle.spool.specs.Play.{pass, begun}
+use Rattle.spool.proofs.Playing.{Going}
 use Rattle.spool.proofs.play.Given as goal
 
 abbrev pub invariant-loop-run : goal.invariant-loop-run

@@ -1,6 +1,5 @@
 -- `print_tape`: the tape is played, and how it ended is put into words.
 use Rattle.spool.proofs.Playing.{printed-by}
-use borrow.Author.Rules.{rules}
 use Rattle.spool.proofs.print_tape.Goals as goal
 
 pub returns : goal.returns

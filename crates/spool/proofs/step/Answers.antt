@@ -3,7 +3,6 @@ use mathlib.Core.Path.{ap, sym, ◌∙◌}
 use native.Mathlib.Omega.{arith}
 use Rattle.reel.specs.declared.records.Record.{Record}
 use Rattle.spool.proofs.Steps.{parts-by, left_by_lem, record-few, unread, refused-call, done-call}
-use borrow.Author.Rules.{rules}
 use Rattle.spool.proofs.step.Goals as goal
 
 pub returns-then-r-ne0 : goal.returns-then-r-ne0
