@@ -8,13 +8,14 @@ use lib.Dec.{eqb}
 use lib.IntN.{ℤ}
 use lib.ListN.{length}
 use mir.Facts.{to_z-of_z}
+use borrow.Author.Rules.{rules}
 use Rattle.laws.proofs.Tests.{both}
 use Rattle.numbers.specs.Limits.{list_limit}
 use Rattle.counted.specs.declared.Listed.{Listed}
 use Rattle.counted.specs.Curves.{ok_curve}
 use Rattle.writing.proofs.Allowed.{fine}
 use Rattle.drawing.specs.Write.{write_of}
-use Rattle.drawing.specs.Calls.{Draw, on_time}
+use Rattle.drawing.specs.Calls.{Draw, draw_write, on_time}
 use Rattle.drawing.proofs.Drawn.{asked-first, asked-as, refused, well, allowed-well, ready-draw, count-well, tested}
 use Rattle.drawing.proofs.Listed.{laid-short, laid-test}
 use Rattle.drawing.proofs.write_on_time.Goals.{After-asked-code}

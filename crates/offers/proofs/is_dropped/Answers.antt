@@ -1,5 +1,6 @@
 use mathlib.Core.Path.{◌≡◌, sym, ◌∙◌}
 use mir.Syntax.{w32, w64}
+use mir.Val.{SFits, to_z, of_z}
 use borrow.Author.Rules.{rules}
 use lib.IntN.{pos}
 use lib.Signed.{le_z}

@@ -7,11 +7,12 @@ use lib.Signed.{mag}
 use mir.Syntax.{w64}
 use mir.Val.{SFits, to_z, of_z}
 use mir.Facts.{to_z-of_z}
-use borrow.Author.Rules.{sfits_of}
+use borrow.Author.Rules.{rules, sfits_of}
 use Rattle.shapes.specs.Curve.{curve_of}
 use Rattle.sines.specs.Sine.{sine_of}
 use Rattle.values.specs.declared.Offer.{Offer}
 use Rattle.offers.specs.declared.Shape.{Shape}
+use Rattle.offers.specs.declared.Shape.TheVariants.{Glide, Turn}
 use Rattle.offers.specs.Pieces.{value_by, value_at, Drawn}
 use Rattle.offers.proofs.point.Goals as goal
 

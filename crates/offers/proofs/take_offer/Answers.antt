@@ -6,6 +6,7 @@ use lib.IntN.{ℤ}
 use mir.Syntax.{w64}
 use mir.Val.{SFits, to_z, of_z}
 use mir.Facts.{to_z-of_z}
+use borrow.Author.Rules.{rules}
 use Rattle.numbers.specs.Limits.{value_bytes}
 use Rattle.values.specs.Value.{next_seed, paid, wrote_of}
 use Rattle.offers.specs.Rules.{rule_of}

@@ -1,7 +1,7 @@
 -- `set_on_cycle`: both ends, with a cycle or none (Settling).
 use mathlib.Core.Path.{◌≡◌, sym, ap, ◌∙◌}
 use mathlib.Core.Bool.{Bool, true, cond, ◌&&◌, ◌||◌}
-use borrow.Author.Rules.{rules}
+use borrow.Author.Rules.{rules, sfits_of}
 use lib.Dec.{eqb}
 use mir.Syntax.{w32, w64}
 use mir.Val.{SFits}

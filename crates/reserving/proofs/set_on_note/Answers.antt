@@ -1,6 +1,7 @@
 -- `set_on_note`: both ends, with a list for notes (Settling).
 use mathlib.Core.Path.{◌≡◌, sym, ap, ◌∙◌}
 use mathlib.Core.Bool.{true}
+use borrow.Author.Rules.{rules}
 use lib.Dec.{eqb}
 use lib.IntN.{ℤ}
 use mir.Facts.{to_z-of_z}

@@ -1,6 +1,7 @@
 -- `set_on_note_wave`: both ends, with a wave (Settling).
 use mathlib.Core.Path.{◌≡◌, sym, ap, ◌∙◌}
 use mathlib.Core.Bool.{true}
+use borrow.Author.Rules.{rules}
 use lib.Dec.{eqb}
 use mir.Facts.{to_z-of_z}
 use Rattle.counted.specs.declared.Listed.{Listed}

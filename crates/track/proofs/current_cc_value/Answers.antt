@@ -1,10 +1,9 @@
 -- `current_cc_value` of a track asks the list's own call, and then the whole track.
-use mathlib.Core.Path.{◌≡◌, sym, ap, ◌∙◌}
-use native.Mathlib.Omega.{arith}
+use mathlib.Core.Path.{◌≡◌, refl, sym, ap, ◌∙◌}
 use lib.ListN.{length}
 use borrow.Author.Rules.{rules}
 use Rattle.cutting.specs.declared.CcValue.{CcValue}
-use Rattle.cutting.specs.Value.{cc_answer, cc_refusal}
+use Rattle.cutting.specs.Value.{cc_answer}
 use Rattle.track.specs.Reading.{asked_of}
 use Rattle.track.proofs.Reading.{refused, bad-track, told, asked-with}
 use Rattle.track.proofs.current_cc_value.Goals as goal
@@ -18,8 +17,7 @@ returns-then-r-ne0 c =
     let n = length a.store.now in
     let asked : c.current_cc_value-r.result ≡ cc_answer n a.events.now a.count (asked_of a.track a.number) =
     asked-with n a.track a.number a.events.now a.count _ _ _ _ (search rules) (search rules) (search rules) c.current_cc_value-r.ensures in
-    let own : c.current_cc_value-r.result.code ≡ cc_refusal n a.events.now a.count (asked_of a.track a.number) = code-of _ _ asked in
-    asked ∙ refused n a.track a.number a.events.now a.count (λ h. omega arith)
+    asked ∙ refused n a.track a.number a.events.now a.count (λ h. c.if-r-ne0.true (code-of _ _ asked ∙ h))
 
 pub returns-then-not-track_ok : goal.returns-then-not-track_ok
 returns-then-not-track_ok c =
@@ -27,8 +25,7 @@ returns-then-not-track_ok c =
     let n = length a.store.now in
     let asked : c.current_cc_value-r.result ≡ cc_answer n a.events.now a.count (asked_of a.track a.number) =
     asked-with n a.track a.number a.events.now a.count _ _ _ _ (search rules) (search rules) (search rules) c.current_cc_value-r.ensures in
-    let own : c.current_cc_value-r.result.code ≡ cc_refusal n a.events.now a.count (asked_of a.track a.number) = code-of _ _ asked in
-    bad-track n a.track a.number a.events.now a.count (omega arith) (sym c.track_ok.ensures ∙ c.if-not-track_ok.true)
+    bad-track n a.track a.number a.events.now a.count (sym (code-of _ _ asked) ∙ c.if-r-ne0.false) (sym c.track_ok.ensures ∙ c.if-not-track_ok.true)
 
 pub returns : goal.returns
 returns c =
@@ -36,5 +33,4 @@ returns c =
     let n = length a.store.now in
     let asked : c.current_cc_value-r.result ≡ cc_answer n a.events.now a.count (asked_of a.track a.number) =
     asked-with n a.track a.number a.events.now a.count _ _ _ _ (search rules) (search rules) (search rules) c.current_cc_value-r.ensures in
-    let own : c.current_cc_value-r.result.code ≡ cc_refusal n a.events.now a.count (asked_of a.track a.number) = code-of _ _ asked in
-    asked ∙ told n a.track a.number a.events.now a.count (omega arith) (sym c.track_ok.ensures ∙ c.if-not-track_ok.false)
+    asked ∙ told n a.track a.number a.events.now a.count (sym (code-of _ _ asked) ∙ c.if-r-ne0.false) (sym c.track_ok.ensures ∙ c.if-not-track_ok.false)

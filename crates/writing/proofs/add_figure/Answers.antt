@@ -18,6 +18,7 @@ use Rattle.writing.specs.Origins.{pieces_of}
 use Rattle.writing.specs.Calls.{new_events_for}
 use Rattle.writing.specs.Figures.{budget_for}
 use Rattle.writing.proofs.Calling.{from, new_is, budget-end}
+use borrow.Author.Rules.{rules}
 use Rattle.writing.proofs.add_figure.Goals.{Start}
 use Rattle.writing.proofs.add_figure.Goals as goal
 

@@ -1,5 +1,6 @@
 -- By the origin: a wave's run is the loop over its source, a sine's the one piece.
 use mathlib.Core.Path.{sym, ap, ◌∙◌}
+use native.Mathlib.Omega.{arith}
 use Prim.Native.Nat.{ℕ}
 use mathlib.Core.List.{List}
 use Rattle.offers.specs.declared.Piece.{Piece}
@@ -7,7 +8,8 @@ use Rattle.offers.specs.Rules.{rule_of}
 use Rattle.offers.specs.Walks.{walked}
 use Rattle.offers.specs.Pieces.{points_of, offers}
 use Rattle.offers.specs.Waves.{triples}
-use Rattle.writing.proofs.Origins.{wave-pieces, sine-offers}
+use Rattle.writing.proofs.Origins.{wave-pieces, wave-asked, sine-asked, sine-offers}
+use borrow.Author.Rules.{rules}
 use Rattle.writing.proofs.count_run.Goals as goal
 
 pub returns-in-Wave : goal.returns-in-Wave

@@ -1,15 +1,17 @@
 -- The invariant: what comes of the pieces left, from here, is what comes of all from the start. The measure is the number of pieces left.
-use mathlib.Core.Path.{◌≡◌, sym, ap, ◌∙◌}
+use mathlib.Core.Path.{◌≡◌, refl, sym, ap, ◌∙◌}
 use mathlib.Core.List.{◌∷◌}
-use Prim.Native.Nat.{min}
+use Prim.Native.Nat.{◌-◌, min}
 use native.Mathlib.Omega.{arith}
+use borrow.Author.Rules.{rules}
+use lib.ListN.{length}
 use Rattle.offers.specs.Rules.{rule_of}
 use Rattle.offers.specs.Walks.{walked}
 use Rattle.offers.specs.Pieces.{offers, points_of}
 use Rattle.offers.specs.Waves.{triples}
 use Rattle.offers.specs.Sources.{rest_of}
 use Rattle.offers.proofs.Adding.{walked-append}
-use Rattle.offers.proofs.Running.{given, fewer, reach, mild, on, over, offers-more}
+use Rattle.offers.proofs.Running.{Ahead, given, fewer, reach, mild, on, over, offers-more}
 use Rattle.writing.proofs.count_source.Goals as goal
 
 pub count_piece-walk-requires : goal.count_piece-walk-requires

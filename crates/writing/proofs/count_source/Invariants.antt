@@ -1,12 +1,17 @@
 -- The invariant: what comes of the pieces left, from here, is what comes of all from the start. The measure is the number of pieces left.
-use mathlib.Core.Path.{◌≡◌}
+use mathlib.Core.Path.{◌≡◌, refl, sym, ap, ◌∙◌}
+use mathlib.Core.List.{◌∷◌}
+use Prim.Native.Nat.{◌-◌, min}
+use native.Mathlib.Omega.{arith}
+use borrow.Author.Rules.{rules}
 use lib.ListN.{length}
 use Rattle.offers.specs.Rules.{rule_of}
 use Rattle.offers.specs.Walks.{walked}
-use Rattle.offers.specs.Pieces.{offers}
+use Rattle.offers.specs.Pieces.{offers, points_of}
 use Rattle.offers.specs.Waves.{triples}
 use Rattle.offers.specs.Sources.{rest_of}
-use Rattle.offers.proofs.Running.{Ahead}
+use Rattle.offers.proofs.Adding.{walked-append}
+use Rattle.offers.proofs.Running.{Ahead, given, fewer, reach, mild, on, over, offers-more}
 use Rattle.writing.proofs.count_source.Given as goal
 
 abbrev pub invariant-loop-t : goal.invariant-loop-t

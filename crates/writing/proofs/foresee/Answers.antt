@@ -1,8 +1,11 @@
 -- The counting run, at the step budget, comes to the budget of the closed form; the two flags are set besides.
 use mathlib.Core.Path.{◌≡◌, ap, ◌∙◌}
+use mathlib.Core.List.{List}
 use Prim.Native.Nat.{ℕ}
 use Rattle.budget.specs.declared.Budget.{Budget}
 use Rattle.budget.specs.Budgets.{step_budget}
+use Rattle.values.specs.declared.Offer.{Offer}
+use Rattle.offers.specs.declared.Piece.{Piece}
 use Rattle.offers.specs.Rules.{rule_of, flagged}
 use Rattle.offers.specs.Walks.{walked}
 use Rattle.offers.specs.Pieces.{offers, total}
@@ -10,6 +13,7 @@ use Rattle.offers.specs.Waves.{triples}
 use Rattle.writing.specs.Origins.{pieces_of}
 use Rattle.writing.specs.Figures.{budget_for}
 use Rattle.writing.proofs.Calling.{from, budget-end}
+use borrow.Author.Rules.{rules}
 use Rattle.writing.proofs.foresee.Goals as goal
 
 pub returns : goal.returns

@@ -8,6 +8,7 @@ use lib.Dec.{ltb}
 use lib.ListN.{length}
 use Rattle.budget.specs.Budgets.{step_budget}
 use Rattle.values.specs.declared.Offer.{Offer}
+use Rattle.offers.specs.declared.Piece.{Piece}
 use Rattle.offers.specs.declared.Walk.{Walk}
 use Rattle.offers.specs.Rules.{rule_of}
 use Rattle.offers.specs.Walks.{walked}
@@ -16,6 +17,7 @@ use Rattle.offers.specs.Waves.{triples}
 use Rattle.writing.specs.Origins.{pieces_of}
 use Rattle.writing.specs.Calls.{new_events_for}
 use Rattle.writing.proofs.Calling.{from, used-is, few-new}
+use borrow.Author.Rules.{rules}
 use Rattle.writing.proofs.lacks_room.Goals.{After-count_run-walk}
 use Rattle.writing.proofs.lacks_room.Goals as goal
 

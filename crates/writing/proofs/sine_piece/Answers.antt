@@ -1,8 +1,9 @@
 use mathlib.Core.Path.{◌≡◌, sym, ap, ap₂, subst, ◌∙◌}
+use native.Mathlib.Omega.{arith}
 use Prim.Native.Nat.{ℕ, ◌*◌, max}
 use lib.IntN.{ℤ}
 use mir.Syntax.{w64}
-use mir.Val.{to_z, of_z}
+use mir.Val.{Fits, to_z, of_z}
 use mir.Facts.{to_z-of_z}
 use borrow.Author.Rules.{sfits_of}
 use Rattle.laws.specs.Integers.{cut}
@@ -11,7 +12,8 @@ use Rattle.offers.specs.declared.Piece.{Piece}
 use Rattle.offers.specs.declared.Shape.TheVariants.{Turn}
 use Rattle.offers.specs.Pieces.{Mild}
 use Rattle.writing.specs.Sines.{sine_piece}
-use Rattle.writing.proofs.Drawing.{sine-mild}
+use Rattle.writing.proofs.Drawing.{long-le, sine-mild}
+use borrow.Author.Rules.{rules}
 use Rattle.writing.proofs.sine_piece.Goals as goal
 
 piece : {stype : SineType} {a b c d : ℤ} {k l m n : ℕ} → a ≡ b → c ≡ d → k ≡ l → m ≡ n → ◌≡◌ {A = Piece} (record { low = a; high = c; len = k; shape = Turn stype m }) (record { low = b; high = d; len = l; shape = Turn stype n })

@@ -10,6 +10,7 @@ use Rattle.offers.specs.Sources.{Runs}
 use Rattle.offers.proofs.Taming.{runs}
 use Rattle.writing.specs.Waves.{cut_by}
 use Rattle.writing.proofs.Writes.{wave-gives}
+use borrow.Author.Rules.{rules}
 use Rattle.writing.proofs.wave_figure.Goals as goal
 
 pub returns : goal.returns

@@ -1,8 +1,11 @@
 use mathlib.Core.Path.{sym, ap, ◌∙◌}
+use mathlib.Core.List.{List}
+use Rattle.offers.specs.declared.Piece.{Piece}
 use Rattle.offers.specs.declared.Mode.{Mode}
 use Rattle.offers.specs.Pieces.{total}
 use Rattle.offers.specs.Waves.{triples, triples_of}
 use Rattle.writing.proofs.Lasting.{lasts-none, lasts-empty, lasts-normal, lasts-expand, lasts-repeat}
+use borrow.Author.Rules.{rules}
 use Rattle.writing.proofs.wave_long.Goals as goal
 
 pub returns-then-n-eq0 : goal.returns-then-n-eq0

@@ -1,8 +1,10 @@
 -- By the origin: a wave's run is the loop over its source, a sine's the one piece; what either leaves is told of the same offers.
 use mathlib.Core.Path.{◌≡◌, sym, ap, ◌∙◌, subst}
 use mathlib.Core.List.{List}
+use native.Mathlib.Omega.{arith}
 use Prim.Native.Nat.{ℕ, ◌+◌, ◌≤◌}
 use lib.ListN.{length}
+use borrow.Author.Rules.{rules}
 use Rattle.events.specs.declared.Event.{Event}
 use Rattle.eventlist.specs.Rows.{rows_of}
 use Rattle.values.specs.declared.Offer.{Offer}
@@ -14,7 +16,7 @@ use Rattle.offers.specs.Pieces.{points_of, offers}
 use Rattle.offers.specs.Waves.{triples}
 use Rattle.offers.specs.Sources.{rest_of}
 use Rattle.writing.specs.Origins.{pieces_of}
-use Rattle.writing.proofs.Origins.{Wrote, wave-pieces, sine-offers}
+use Rattle.writing.proofs.Origins.{Wrote, wave-pieces, wave-asked, sine-asked, sine-offers}
 use Rattle.writing.proofs.write_run.Goals.{In-Wave, After-least-k}
 use Rattle.writing.proofs.write_run.Goals as goal
 

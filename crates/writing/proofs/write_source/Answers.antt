@@ -1,8 +1,9 @@
 -- The invariant is `Adding` over the offers of the pieces left; the measure is the number of pieces left.
-use mathlib.Core.Path.{◌∙◌}
+use mathlib.Core.Path.{◌≡◌, refl, ◌∙◌}
 use mathlib.Core.List.{List, ◌++◌}
 use Prim.Native.Nat.{◌+◌, ◌-◌, ◌≤◌, min}
 use native.Mathlib.Omega.{arith}
+use borrow.Author.Rules.{rules}
 use lib.ListN.{length}
 use Rattle.eventlist.specs.Rows.{rows_of}
 use Rattle.values.specs.declared.Offer.{Offer}
@@ -11,8 +12,8 @@ use Rattle.offers.specs.Walks.{emitted}
 use Rattle.offers.specs.Pieces.{offers, points_of}
 use Rattle.offers.specs.Waves.{triples}
 use Rattle.offers.specs.Sources.{rest_of}
-use Rattle.offers.proofs.Adding.{Adding, further, ended, room_for}
-use Rattle.offers.proofs.Running.{given, fewer, reach, mild, on, over, offers-more}
+use Rattle.offers.proofs.Adding.{Adding, begun, further, ended, room_for}
+use Rattle.offers.proofs.Running.{Ahead, given, fewer, reach, mild, on, over, offers-more}
 use Rattle.writing.proofs.write_source.Goals.{After-least-k}
 use Rattle.writing.proofs.write_source.Goals as goal
 

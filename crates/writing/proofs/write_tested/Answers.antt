@@ -3,6 +3,7 @@ use mathlib.Core.Path.{◌≡◌, sym, ap, ◌∙◌}
 use mathlib.Core.List.{List, [], ◌∷◌}
 use native.Mathlib.Omega.{arith}
 use borrow.Author.Tests.{not-false}
+use borrow.Author.Rules.{rules}
 use Rattle.laws.proofs.Tests.{no, yes}
 use Rattle.eventlist.specs.declared.Window.{Window}
 use Rattle.eventlist.specs.Windows.{windows_of}
