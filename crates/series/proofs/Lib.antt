@@ -1,0 +1,10 @@
+pub mod Times
+pub mod Own
+pub mod ByValue
+pub mod Demand
+pub mod Large
+pub mod Linked
+pub mod Cut
+pub mod Loop
+pub mod Chunk
+pub mod Profile
