@@ -1,3 +1,4 @@
 pub mod Ranges
+pub mod Refusals
 pub mod Random
 pub mod Limits

@@ -3,11 +3,15 @@
 // before they store or compute, so that nothing further in needs a `requires`.
 #![tactic(auto)]
 
+mod refusals;
+
 ghost use Rattle.std.specs.Prelude.{◌≡◌, ◌<◌, ◌^◌};
 ghost use Rattle.std.specs.Int.Signed.{mag};
 ghost use Rattle.laws.specs.Integers.{inside, range_of};
 ghost use Rattle.numbers.specs.Random.{next_rand, spread};
 ghost use Rattle.numbers.specs.Ranges.{is_time, is_stored_time, is_event_time, is_number, is_length, is_random, is_sine_end, is_controller, is_bend, is_target, is_channel, is_timebase, is_word, is_bytes};
+
+pub use refusals::{Refusal, ask, code_of};
 
 // Below `low` gives `low`, otherwise above `high` gives `high`, whichever of the two is the greater.
 pub fn value_range(low: i64, v: i64, high: i64) -> i64

@@ -1,4 +1,3 @@
-use borrow.Author.Rules.{rules}
 use Rattle.laws.specs.Integers.{sized}
 use Rattle.numbers.proofs.Tested.{read_back}
 use Rattle.numbers.specs.Ranges.{is_length}

@@ -1,4 +1,3 @@
-use borrow.Author.Rules.{rules}
 use Rattle.numbers.proofs.Tested.{read_back}
 use Rattle.numbers.specs.Ranges.{is_word}
 use Rattle.numbers.proofs.is_word.Goals as goal

@@ -1,7 +1,6 @@
 -- The remainder and the half, read back from their bits, are the definition's; the rest are the sums of `Spreading`.
 use mathlib.Core.Path.{◌≡◌, ap, ap₂, sym, ◌∙◌}
 use mathlib.Core.Bool.{false}
-use borrow.Author.Rules.{rules}
 use native.Mathlib.Omega.{arith}
 use Prim.Native.Nat.{◌/◌, ◌%◌}
 use lib.Dec.{lit<}
