@@ -20,7 +20,8 @@ use Rattle.counted.specs.Numbers.{ok_numbers}
 use Rattle.counted.proofs.Counted.{numbers-count}
 use Rattle.reserved.proofs.Cycles.{or_left}
 use Rattle.tables.specs.declared.OnNoteValues.{OnNoteValues}
-use Rattle.tables.specs.declared.NoteTable.{NoteTable}
+use Rattle.tables.specs.Sixteen.{well}
+use Rattle.tables.specs.Tables.{NoteTable}
 use Rattle.tables.specs.Reservations.{ok_values}
 use Rattle.tables.specs.Tables.{ok_notes}
 use Rattle.noting.specs.Lists.{at_end, silent, place_of, advanced}
@@ -84,5 +85,5 @@ kept-values e h q =
 
 -- each list of a table that passes its test passes its own
 pub listed : (t : NoteTable) → ok_notes t ≡ true → all ok_values (take t.count t.items) ≡ true
-unfolding ok_notes counted
+unfolding well counted
 listed t e = right (leb t.count places) (all ok_values (take t.count t.items)) e

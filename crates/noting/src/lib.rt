@@ -26,7 +26,7 @@ use eventlist::{WIDTH, list_ok};
 use events::{Event, zero_event};
 use numbers::is_time;
 use state::{OPTIONS, Track, track_ok};
-use tables::{NoteTable, OnNoteValues, no_note};
+use tables::{NoteTable, OnNoteValues, Reservation};
 use values::{Offer, Write, WriteOption, Wrote};
 
 // A note's beginning: when, and on which channel.
@@ -218,7 +218,7 @@ fn keep_unspent(table: NoteTable) -> NoteTable
     ensures { result ≡ notes_put table (without spent (take table.count table.items)) }
 {
     let count = table.count;
-    let none = no_note();
+    let none = OnNoteValues::blank();
     let mut notes = table;
     let mut n: usize = 0;
     let mut i: usize = 0;

@@ -25,6 +25,7 @@ use Rattle.tables.specs.declared.OnNoteValues.{OnNoteValues}
 use Rattle.tables.specs.declared.OnNoteWave.{OnNoteWave}
 use Rattle.tables.specs.declared.OnNoteSine.{OnNoteSine}
 use Rattle.tables.specs.Reservations.{ok_values, ok_wave, ok_sine}
+use Rattle.tables.specs.Sixteen.{keyed}
 use Rattle.tables.specs.Tables.{no_note, no_wave, no_sine, note_at, wave_at, sine_at, cycle_at, notes_left, waves_left, sines_left, cycles_left, note_keys, wave_keys, sine_keys, cycle_keys}
 use Rattle.state.specs.declared.Track.{Track}
 use Rattle.state.specs.Track.{cycles_of}
@@ -47,7 +48,7 @@ pub record Gone (k : ℕ) (r : Kept) : Type 0 where
   pub cycles : absent k (cycle_keys (cycles_of r.track r.cycles)) ≡ true
 
 cleared-gone : (a : Track) (cs : List Cycle) (k : ℕ) → Gone k (cleared a cs k)
-unfolding cleared note_at wave_at sine_at cycle_at
+unfolding cleared keyed
 cleared-gone a cs k =
     record {
       notes = gone (λ (x : OnNoteValues). key x.target) k no_note a.notes.count a.notes.items;
@@ -93,19 +94,19 @@ module _ (a : Track) (size : ℕ) (cs : List Cycle) (target : ℤ) where
     note-passes e = passing a size cs target (is_short v) (ok_values note) note_room (with_note note) (λ t m o h. note-kept a cs (key target) m note o refl (ltb-true _ _ h)) e
 
     note-end : notes (with_note note (cleared a cs (key target))) ≡ notes_left a.notes (key target) ++ (note ∷ [])
-    unfolding cleared note_at
+    unfolding cleared keyed
     note-end = at-the-end (λ (x : OnNoteValues). key x.target) (key target) no_note a.notes.count a.notes.items note
 
     pub note-last : (set_on_note a size cs target v).code ≡ 0 → notes (set_on_note a size cs target v) ≡ notes_left a.notes (key target) ++ (note ∷ [])
-    unfolding set_on_note note_at
+    unfolding set_on_note keyed
     note-last e = last a size cs target (is_short v) (ok_values note) note_room (with_note note) (λ (x : OnNoteValues). key x.target) a.notes.count a.notes.items note notes note-end e
 
     pub note-there : (set_on_note a size cs target v).code ≡ 0 → absent (key target) (note_keys (set_on_note a size cs target v).track.notes) ≡ false
-    unfolding set_on_note note_at
+    unfolding set_on_note keyed
     note-there e = there a size cs target (is_short v) (ok_values note) note_room (with_note note) (λ (x : OnNoteValues). key x.target) a.notes.count a.notes.items note notes note-end e refl
 
     pub note-again : absent (key target) (note_keys a.notes) ≡ false → (set_on_note a size cs target v).code ≡ 6 → ⊥
-    unfolding set_on_note cleared note_at
+    unfolding set_on_note cleared keyed
     note-again q e = again a size cs target (is_short v) (ok_values note) note_room (with_note note) (λ (x : OnNoteValues). key x.target) a.notes.count a.notes.items refl refl (notes-few a cs) q e
 
   -- ---- `set_on_note_wave`
@@ -125,19 +126,19 @@ module _ (a : Track) (size : ℕ) (cs : List Cycle) (target : ℤ) where
     wave-passes e = passing a size cs target (is_short v) (ok_wave wave) wave_room (with_wave wave) (λ t m o h. wave-kept a cs (key target) m wave o refl (ltb-true _ _ h)) e
 
     wave-end : waves (with_wave wave (cleared a cs (key target))) ≡ waves_left a.waves (key target) ++ (wave ∷ [])
-    unfolding cleared wave_at
+    unfolding cleared keyed
     wave-end = at-the-end (λ (x : OnNoteWave). key x.target) (key target) no_wave a.waves.count a.waves.items wave
 
     pub wave-last : (set_on_note_wave a size cs target mode v).code ≡ 0 → waves (set_on_note_wave a size cs target mode v) ≡ waves_left a.waves (key target) ++ (wave ∷ [])
-    unfolding set_on_note_wave wave_at
+    unfolding set_on_note_wave keyed
     wave-last e = last a size cs target (is_short v) (ok_wave wave) wave_room (with_wave wave) (λ (x : OnNoteWave). key x.target) a.waves.count a.waves.items wave waves wave-end e
 
     pub wave-there : (set_on_note_wave a size cs target mode v).code ≡ 0 → absent (key target) (wave_keys (set_on_note_wave a size cs target mode v).track.waves) ≡ false
-    unfolding set_on_note_wave wave_at
+    unfolding set_on_note_wave keyed
     wave-there e = there a size cs target (is_short v) (ok_wave wave) wave_room (with_wave wave) (λ (x : OnNoteWave). key x.target) a.waves.count a.waves.items wave waves wave-end e refl
 
     pub wave-again : absent (key target) (wave_keys a.waves) ≡ false → (set_on_note_wave a size cs target mode v).code ≡ 6 → ⊥
-    unfolding set_on_note_wave cleared wave_at
+    unfolding set_on_note_wave cleared keyed
     wave-again q e = again a size cs target (is_short v) (ok_wave wave) wave_room (with_wave wave) (λ (x : OnNoteWave). key x.target) a.waves.count a.waves.items refl refl (waves-few a cs) q e
 
   -- ---- `set_on_note_sine`
@@ -157,20 +158,20 @@ module _ (a : Track) (size : ℕ) (cs : List Cycle) (target : ℤ) where
     sine-passes e = passing a size cs target true (ok_sine sine && named) sine_room (with_sine sine) (λ t m o h. sine-kept a cs (key target) m sine (left (ok_sine sine) named o) (eqb-true _ _ (right (ok_sine sine) named o)) (ltb-true _ _ h)) e
 
     sine-end : sines (with_sine sine (cleared a cs (key target))) ≡ sines_left a.sines (key target) ++ (sine ∷ [])
-    unfolding cleared sine_at
+    unfolding cleared keyed
     sine-end = at-the-end (λ (x : OnNoteSine). key x.target) (key target) no_sine a.sines.count a.sines.items sine
 
     pub sine-last : (set_on_note_sine a size cs target sine).code ≡ 0 → sines (set_on_note_sine a size cs target sine) ≡ sines_left a.sines (key target) ++ (sine ∷ [])
-    unfolding set_on_note_sine sine_at
+    unfolding set_on_note_sine keyed
     sine-last e = last a size cs target true (ok_sine sine && named) sine_room (with_sine sine) (λ (x : OnNoteSine). key x.target) a.sines.count a.sines.items sine sines sine-end e
 
     pub sine-there : (set_on_note_sine a size cs target sine).code ≡ 0 → absent (key target) (sine_keys (set_on_note_sine a size cs target sine).track.sines) ≡ false
-    unfolding set_on_note_sine sine_at
+    unfolding set_on_note_sine keyed
     sine-there e = let o = allowed a size cs target _ _ _ (accepted a size cs target true (ok_sine sine && named) sine_room (with_sine sine) e) in
         there a size cs target true (ok_sine sine && named) sine_room (with_sine sine) (λ (x : OnNoteSine). key x.target) a.sines.count a.sines.items sine sines sine-end e (eqb-true _ _ (right (ok_sine sine) named o))
 
     pub sine-again : absent (key target) (sine_keys a.sines) ≡ false → (set_on_note_sine a size cs target sine).code ≡ 6 → ⊥
-    unfolding set_on_note_sine cleared sine_at
+    unfolding set_on_note_sine cleared keyed
     sine-again q e = again a size cs target true (ok_sine sine && named) sine_room (with_sine sine) (λ (x : OnNoteSine). key x.target) a.sines.count a.sines.items refl refl (sines-few a cs) q e
 
   -- ---- `set_on_cycle`
@@ -229,24 +230,24 @@ module _ (a : Track) (size : ℕ) (cs : List Cycle) (target : ℤ) where
       cycles r = take r.track.cycles r.cycles
 
       cycle-end : cycles (with_cycle cycle (cleared a cs (key target))) ≡ cycles_left (cycles_of a cs) (key target) ++ (cycle ∷ [])
-      unfolding cleared cycle_at
+      unfolding cleared keyed
       cycle-end = at-the-end (λ (x : Cycle). key x.target) (key target) no_cycle a.cycles cs cycle
 
       pub cycle-last : (set_on_cycle a size cs target n v).code ≡ 0 → cycles (set_on_cycle a size cs target n v) ≡ cycles_left (cycles_of a cs) (key target) ++ (cycle ∷ [])
-      unfolding cycle_at
+      unfolding keyed
       cycle-last e =
           ap cycles left-cycle
           ∙ last a size cs target (is_short v) okay (room_by false) (put_by false) (λ (x : Cycle). key x.target) a.cycles cs cycle cycles cycle-end (zero-by e)
 
       pub cycle-there : (set_on_cycle a size cs target n v).code ≡ 0
           → (let r = set_on_cycle a size cs target n v in absent (key target) (cycle_keys (cycles_of r.track r.cycles)) ≡ false)
-      unfolding cycle_at
+      unfolding keyed
       cycle-there e =
           ap (λ (x : Kept). absent (key target) (cycle_keys (cycles_of x.track x.cycles))) left-cycle
           ∙ there a size cs target (is_short v) okay (room_by false) (put_by false) (λ (x : Cycle). key x.target) a.cycles cs cycle cycles cycle-end (zero-by e) refl
 
       pub cycle-again : absent (key target) (cycle_keys (cycles_of a cs)) ≡ false → (set_on_cycle a size cs target n v).code ≡ 6 → ⊥
-      unfolding cleared cycle_at
+      unfolding cleared keyed
       cycle-again q e =
           again a size cs target (is_short v) okay (room_by false) (put_by false) (λ (x : Cycle). key x.target) a.cycles cs refl refl (cycles-few a cs) q
           (ap (λ (x : Kept). x.code) (sym left-cycle) ∙ e)

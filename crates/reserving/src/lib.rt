@@ -21,8 +21,7 @@ use numbers::{is_length, is_target};
 use state::{OPTIONS, Track, TrackAnswer, cycles_of, lent_alone, track_ok};
 use tables::{
     CycleTable, NORMAL, NoteTable, OnNoteSine, OnNoteValues, OnNoteWave, SineTable, WaveTable,
-    note_ok, put_cycle, put_note, put_sine, put_wave, sine_ok, take_cycle, take_note, take_sine,
-    take_wave, wave_ok,
+    note_ok, sine_ok, wave_ok,
 };
 use values::WriteOption;
 
@@ -97,10 +96,10 @@ fn cleared(track: Track, cycles: [Cycle; PLACES], k: usize) -> Kept
     let own = cycles_of(track, cycles);
     with_tables(
         track,
-        take_note(track.notes, k),
-        take_wave(track.waves, k),
-        take_sine(track.sines, k),
-        take_cycle(own, k),
+        track.notes.without(k),
+        track.waves.without(k),
+        track.sines.without(k),
+        own.without(k),
     )
 }
 
@@ -125,7 +124,7 @@ fn put_in_notes(track: Track, cycles: [Cycle; PLACES], k: usize, e: OnNoteValues
     requires { ok_lent track cycles ≡ true }
     ensures { result ≡ placed track cycles note_room (with_note e) (cleared track cycles k) }
 {
-    let notes = take_note(track.notes, k);
+    let notes = track.notes.without(k);
     if PLACES <= notes.count {
         return Kept {
             code: 6,
@@ -136,10 +135,10 @@ fn put_in_notes(track: Track, cycles: [Cycle; PLACES], k: usize, e: OnNoteValues
     let own = cycles_of(track, cycles);
     with_tables(
         track,
-        put_note(notes, e),
-        take_wave(track.waves, k),
-        take_sine(track.sines, k),
-        take_cycle(own, k),
+        notes.with(e),
+        track.waves.without(k),
+        track.sines.without(k),
+        own.without(k),
     )
 }
 
@@ -188,7 +187,7 @@ fn put_in_waves(track: Track, cycles: [Cycle; PLACES], k: usize, e: OnNoteWave) 
     requires { ok_lent track cycles ≡ true }
     ensures { result ≡ placed track cycles wave_room (with_wave e) (cleared track cycles k) }
 {
-    let waves = take_wave(track.waves, k);
+    let waves = track.waves.without(k);
     if PLACES <= waves.count {
         return Kept {
             code: 6,
@@ -199,10 +198,10 @@ fn put_in_waves(track: Track, cycles: [Cycle; PLACES], k: usize, e: OnNoteWave) 
     let own = cycles_of(track, cycles);
     with_tables(
         track,
-        take_note(track.notes, k),
-        put_wave(waves, e),
-        take_sine(track.sines, k),
-        take_cycle(own, k),
+        track.notes.without(k),
+        waves.with(e),
+        track.sines.without(k),
+        own.without(k),
     )
 }
 
@@ -242,7 +241,7 @@ fn put_in_sines(track: Track, cycles: [Cycle; PLACES], k: usize, e: OnNoteSine) 
     requires { ok_lent track cycles ≡ true }
     ensures { result ≡ placed track cycles sine_room (with_sine e) (cleared track cycles k) }
 {
-    let sines = take_sine(track.sines, k);
+    let sines = track.sines.without(k);
     if PLACES <= sines.count {
         return Kept {
             code: 6,
@@ -253,10 +252,10 @@ fn put_in_sines(track: Track, cycles: [Cycle; PLACES], k: usize, e: OnNoteSine) 
     let own = cycles_of(track, cycles);
     with_tables(
         track,
-        take_note(track.notes, k),
-        take_wave(track.waves, k),
-        put_sine(sines, e),
-        take_cycle(own, k),
+        track.notes.without(k),
+        track.waves.without(k),
+        sines.with(e),
+        own.without(k),
     )
 }
 
@@ -292,7 +291,7 @@ fn cycles_with(free: CycleTable, e: Cycle, gone: bool) -> CycleTable
     if gone {
         return free;
     }
-    put_cycle(free, e)
+    free.with(e)
 }
 
 // The same with a cycle, which stands in the lent table; with `gone` the old entries go and none is put.
@@ -301,7 +300,7 @@ fn put_in_cycles(track: Track, cycles: [Cycle; PLACES], k: usize, e: Cycle, gone
     ensures { result ≡ placed track cycles (λ (f : Kept). gone || cycle_room f) (λ (f : Kept). cond gone f (with_cycle e f)) (cleared track cycles k) }
 {
     let own = cycles_of(track, cycles);
-    let free = take_cycle(own, k);
+    let free = own.without(k);
     if !gone & (PLACES <= free.count) {
         return Kept {
             code: 6,
@@ -311,9 +310,9 @@ fn put_in_cycles(track: Track, cycles: [Cycle; PLACES], k: usize, e: Cycle, gone
     }
     with_tables(
         track,
-        take_note(track.notes, k),
-        take_wave(track.waves, k),
-        take_sine(track.sines, k),
+        track.notes.without(k),
+        track.waves.without(k),
+        track.sines.without(k),
         cycles_with(free, e, gone),
     )
 }
@@ -437,7 +436,7 @@ pub fn remove_cc_on_note(mut track: Track, number: i32) -> TrackAnswer
         };
     }
     let key = key_of(target);
-    track.notes = take_note(track.notes, key);
+    track.notes = track.notes.without(key);
     TrackAnswer {
         code: 0,
         track: track,
@@ -457,8 +456,8 @@ pub fn remove_cc_on_note_wave(mut track: Track, number: i32) -> TrackAnswer
         };
     }
     let key = key_of(target);
-    track.waves = take_wave(track.waves, key);
-    track.sines = take_sine(track.sines, key);
+    track.waves = track.waves.without(key);
+    track.sines = track.sines.without(key);
     TrackAnswer {
         code: 0,
         track: track,

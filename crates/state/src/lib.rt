@@ -17,8 +17,8 @@ use layers::{Layers, layer_ok, layers_ok};
 use numbers::{channel_ok, is_length, is_number, is_time, is_timebase};
 use params::{NoteParam, param_ok};
 use tables::{
-    CycleTable, NoteTable, SineTable, WaveTable, cycles_ok, lone_ok, no_note, no_sine, no_wave,
-    stored_ok,
+    CycleTable, NoteTable, OnNoteSine, OnNoteValues, OnNoteWave, Reservation, SineTable, WaveTable,
+    lone_ok, stored_ok,
 };
 use values::{WriteOption, option_ok};
 
@@ -62,7 +62,7 @@ pub struct TrackAnswer {
 pub fn no_notes() -> NoteTable
     ensures { result ≡ no_notes }
 {
-    let e = no_note();
+    let e = OnNoteValues::blank();
     NoteTable {
         count: 0,
         items: [e; PLACES],
@@ -72,7 +72,7 @@ pub fn no_notes() -> NoteTable
 pub fn no_waves() -> WaveTable
     ensures { result ≡ no_waves }
 {
-    let e = no_wave();
+    let e = OnNoteWave::blank();
     WaveTable {
         count: 0,
         items: [e; PLACES],
@@ -82,7 +82,7 @@ pub fn no_waves() -> WaveTable
 pub fn no_sines() -> SineTable
     ensures { result ≡ no_sines }
 {
-    let e = no_sine();
+    let e = OnNoteSine::blank();
     SineTable {
         count: 0,
         items: [e; PLACES],
@@ -227,7 +227,7 @@ pub fn lent_alone(notes: NoteTable, waves: WaveTable, sines: SineTable, own: Cyc
     requires { (notes.count ≤ places) × (waves.count ≤ places) × (sines.count ≤ places) }
     ensures { result ≡ ok_cycles own && lone notes waves sines own }
 {
-    if !cycles_ok(own) {
+    if !own.is_ok() {
         return false;
     }
     lone_ok(notes, waves, sines, own)

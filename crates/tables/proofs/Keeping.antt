@@ -22,18 +22,15 @@ use Rattle.cycles.specs.Rules.{no_cycle, ok_cycle, ok_table}
 use Rattle.tables.specs.declared.OnNoteValues.{OnNoteValues}
 use Rattle.tables.specs.declared.OnNoteWave.{OnNoteWave}
 use Rattle.tables.specs.declared.OnNoteSine.{OnNoteSine}
-use Rattle.tables.specs.declared.NoteTable.{NoteTable}
-use Rattle.tables.specs.declared.WaveTable.{WaveTable}
-use Rattle.tables.specs.declared.SineTable.{SineTable}
-use Rattle.tables.specs.declared.CycleTable.{CycleTable}
-use Rattle.tables.specs.Tables.{no_note, no_wave, no_sine, note_at, wave_at, sine_at, cycle_at, note_keys, wave_keys, sine_keys, cycle_keys, notes_left, waves_left, sines_left, cycles_left, notes_without, waves_without, sines_without, cycles_without, notes_with, waves_with, sines_with, cycles_with, ok_cycles, lone}
+use Rattle.tables.specs.Sixteen.{keyed, well}
+use Rattle.tables.specs.Tables.{NoteTable, WaveTable, SineTable, CycleTable, no_note, no_wave, no_sine, note_keys, wave_keys, sine_keys, cycle_keys, notes_left, waves_left, sines_left, cycles_left, notes_without, waves_without, sines_without, cycles_without, notes_with, waves_with, sines_with, cycles_with, ok_cycles, lone}
 
 -- ---- the four tables
 
 -- what the cycle theorem asks of a table follows from the tests of a track's tables
 pub cycle-rules : (notes : NoteTable) (waves : WaveTable) (sines : SineTable) (cycles : CycleTable) → lone notes waves sines cycles ≡ true → ok_cycles cycles ≡ true
     → ok_table (take cycles.count cycles.items) ≡ true
-unfolding lone ok_cycles ok_table counted
+unfolding lone well ok_table counted
 cycle-rules notes waves sines cycles e o =
     let used = take cycles.count cycles.items in
     rw (right (leb cycles.count places) (all ok_cycle used) o) (distinct-last (note_keys notes ++ wave_keys waves ++ sine_keys sines) (cycle_keys cycles) e)
@@ -96,7 +93,7 @@ module _ (notes : NoteTable) (waves : WaveTable) (sines : SineTable) (cycles : C
   cs = cycle_keys (cycles_without cycles k)
 
   left_over : (ns ++ ws ++ ss ++ cs) ≡ others
-  unfolding note_at wave_at sine_at cycle_at
+  unfolding keyed
   left_over =
       four
       (keys-without (λ (x : OnNoteValues). key x.target) no_note notes.count notes.items k)
@@ -122,7 +119,7 @@ module _ (notes : NoteTable) (waves : WaveTable) (sines : SineTable) (cycles : C
       distinct-insert k xs ys (ap distinct (sym r) ∙ still) (ap (absent k) (sym r) ∙ gone k (note_keys notes ++ wave_keys waves ++ sine_keys sines ++ cycle_keys cycles))
 
   pub lone-note : (x : OnNoteValues) → key x.target ≡ k → lone (notes_with (notes_without notes k) x) (waves_without waves k) (sines_without sines k) (cycles_without cycles k) ≡ true
-  unfolding lone note_at
+  unfolding lone keyed
   lone-note x q =
       let t = notes_without notes k in
       let more : note_keys (notes_with t x) ≡ note_keys t ++ (k ∷ []) =
@@ -131,7 +128,7 @@ module _ (notes : NoteTable) (waves : WaveTable) (sines : SineTable) (cycles : C
       ap distinct (ap (λ (y : List ℕ). y ++ ws ++ ss ++ cs) more ∙ in-first k ns ws ss cs) ∙ lone-put ns (ws ++ (ss ++ cs)) (apart-first ns ws ss cs)
 
   pub lone-wave : (x : OnNoteWave) → key x.target ≡ k → lone (notes_without notes k) (waves_with (waves_without waves k) x) (sines_without sines k) (cycles_without cycles k) ≡ true
-  unfolding lone wave_at
+  unfolding lone keyed
   lone-wave x q =
       let t = waves_without waves k in
       let more : wave_keys (waves_with t x) ≡ wave_keys t ++ (k ∷ []) =
@@ -140,7 +137,7 @@ module _ (notes : NoteTable) (waves : WaveTable) (sines : SineTable) (cycles : C
       ap distinct (ap (λ (y : List ℕ). ns ++ y ++ ss ++ cs) more ∙ in-second k ns ws ss cs) ∙ lone-put (ns ++ ws) (ss ++ cs) (append_assoc (ns ++ ws) ss cs)
 
   pub lone-sine : (x : OnNoteSine) → key x.target ≡ k → lone (notes_without notes k) (waves_without waves k) (sines_with (sines_without sines k) x) (cycles_without cycles k) ≡ true
-  unfolding lone sine_at
+  unfolding lone keyed
   lone-sine x q =
       let t = sines_without sines k in
       let more : sine_keys (sines_with t x) ≡ sine_keys t ++ (k ∷ []) =
@@ -149,7 +146,7 @@ module _ (notes : NoteTable) (waves : WaveTable) (sines : SineTable) (cycles : C
       ap distinct (ap (λ (y : List ℕ). ns ++ ws ++ y ++ cs) more ∙ in-third k ns ws ss cs) ∙ lone-put (ns ++ ws ++ ss) cs refl
 
   pub lone-cycle : (x : Cycle) → key x.target ≡ k → lone (notes_without notes k) (waves_without waves k) (sines_without sines k) (cycles_with (cycles_without cycles k) x) ≡ true
-  unfolding lone cycle_at
+  unfolding lone keyed
   lone-cycle x q =
       let t = cycles_without cycles k in
       let more : cycle_keys (cycles_with t x) ≡ cycle_keys t ++ (k ∷ []) =

@@ -1,3 +1,4 @@
 pub mod Reservations
+pub mod Sixteen
 pub mod Tables
 pub mod Stored

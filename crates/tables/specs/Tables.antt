@@ -1,7 +1,5 @@
--- 01, "Cycles" and "Numbers a caller may hand in": tables of sixteen. "Setting a target again moves it to the end": it is
--- taken out, what stays closes up, and one more is put at the end.
-use Rattle.std.specs.Prelude.{Bool, cond, List, [], ◌∷◌, ◌++◌, map, ℕ, ◌+◌, ◌*◌, eqb, ℤ, pos, length, take, drop}
-use Rattle.laws.specs.Lists.{counted, without, put_first}
+-- 01, "Numbers a caller may hand in": the four tables of sixteen, and the keys of all their targets.
+use Rattle.std.specs.Prelude.{Bool, cond, List, ◌++◌, ℕ, ◌+◌, ◌*◌, ℤ, pos, length, take, drop}
 use Rattle.laws.specs.Keys.{distinct}
 use Rattle.numbers.specs.Limits.{places}
 use Rattle.numbers.specs.Ranges.{is_target}
@@ -13,12 +11,22 @@ use Rattle.tables.specs.declared.OnNoteValues.{OnNoteValues}
 use Rattle.tables.specs.declared.OnNoteWave.{OnNoteWave}
 use Rattle.tables.specs.declared.OnNoteSine.{OnNoteSine}
 use Rattle.tables.specs.declared.SineAnswer.{SineAnswer}
-use Rattle.tables.specs.declared.NoteTable.{NoteTable}
-use Rattle.tables.specs.declared.WaveTable.{WaveTable}
-use Rattle.tables.specs.declared.SineTable.{SineTable}
-use Rattle.tables.specs.declared.CycleTable.{CycleTable}
+use Rattle.tables.specs.declared.Table.{Table}
 use Rattle.tables.specs.declared.Keys.{Keys}
 use Rattle.tables.specs.Reservations.{ok_values, ok_wave, ok_sine}
+use Rattle.tables.specs.Sixteen.{keyed, left, taken_out, put_in, well, keys_of}
+
+abbrev pub NoteTable : Type 0
+NoteTable = Table OnNoteValues
+
+abbrev pub WaveTable : Type 0
+WaveTable = Table OnNoteWave
+
+abbrev pub SineTable : Type 0
+SineTable = Table OnNoteSine
+
+abbrev pub CycleTable : Type 0
+CycleTable = Table Cycle
 
 -- ---- unused places
 abbrev pub no_note : OnNoteValues
@@ -30,71 +38,75 @@ no_wave = record { target = pos 0; mode = 0; values = none }
 abbrev pub no_sine : OnNoteSine
 no_sine = record { target = pos 0; shape = 0; low = pos 0; high = pos 0; length = pos 0; times = pos 0 }
 
+-- ---- what tells a record apart: its target's key
+abbrev pub note_key : OnNoteValues → ℕ
+note_key e = key e.target
+
+abbrev pub wave_key : OnNoteWave → ℕ
+wave_key e = key e.target
+
+abbrev pub sine_key : OnNoteSine → ℕ
+sine_key e = key e.target
+
+abbrev pub cycle_key : Cycle → ℕ
+cycle_key e = key e.target
+
 -- ---- lists for notes
-unfoldable pub note_at : ℕ → OnNoteValues → Bool
-note_at k e = eqb (key e.target) k
+abbrev pub note_at : ℕ → OnNoteValues → Bool
+note_at = keyed note_key
 
--- those of other targets, in order
 abbrev pub notes_left : NoteTable → ℕ → List OnNoteValues
-notes_left t k = without (note_at k) (take t.count t.items)
-
-abbrev pub notes_cleared : NoteTable → ℕ → NoteTable
-notes_cleared t n = record { count = n; items = put_first no_note t.count (take n t.items) t.items }
+notes_left = left note_key
 
 abbrev pub notes_without : NoteTable → ℕ → NoteTable
-notes_without t k = record { count = length (notes_left t k); items = put_first no_note t.count (notes_left t k) t.items }
+notes_without = taken_out no_note note_key
 
 abbrev pub notes_with : NoteTable → OnNoteValues → NoteTable
-notes_with t e = record { count = t.count + 1; items = put_first no_note t.count (take t.count t.items ++ (e ∷ [])) t.items }
+notes_with = put_in no_note
 
-unfoldable pub ok_notes : NoteTable → Bool
-ok_notes t = counted t.count places ok_values t.items
+abbrev pub ok_notes : NoteTable → Bool
+ok_notes = well ok_values
 
 abbrev pub note_keys : NoteTable → List ℕ
-note_keys t = map (λ (e : OnNoteValues). key e.target) (take t.count t.items)
+note_keys = keys_of note_key
 
 -- ---- waves for notes
-unfoldable pub wave_at : ℕ → OnNoteWave → Bool
-wave_at k e = eqb (key e.target) k
+abbrev pub wave_at : ℕ → OnNoteWave → Bool
+wave_at = keyed wave_key
 
--- those of other targets, in order
 abbrev pub waves_left : WaveTable → ℕ → List OnNoteWave
-waves_left t k = without (wave_at k) (take t.count t.items)
-
-abbrev pub waves_cleared : WaveTable → ℕ → WaveTable
-waves_cleared t n = record { count = n; items = put_first no_wave t.count (take n t.items) t.items }
+waves_left = left wave_key
 
 abbrev pub waves_without : WaveTable → ℕ → WaveTable
-waves_without t k = record { count = length (waves_left t k); items = put_first no_wave t.count (waves_left t k) t.items }
+waves_without = taken_out no_wave wave_key
 
 abbrev pub waves_with : WaveTable → OnNoteWave → WaveTable
-waves_with t e = record { count = t.count + 1; items = put_first no_wave t.count (take t.count t.items ++ (e ∷ [])) t.items }
+waves_with = put_in no_wave
 
-unfoldable pub ok_waves : WaveTable → Bool
-ok_waves t = counted t.count places ok_wave t.items
+abbrev pub ok_waves : WaveTable → Bool
+ok_waves = well ok_wave
 
 abbrev pub wave_keys : WaveTable → List ℕ
-wave_keys t = map (λ (e : OnNoteWave). key e.target) (take t.count t.items)
+wave_keys = keys_of wave_key
 
 -- ---- sines for notes
-unfoldable pub sine_at : ℕ → OnNoteSine → Bool
-sine_at k e = eqb (key e.target) k
+abbrev pub sine_at : ℕ → OnNoteSine → Bool
+sine_at = keyed sine_key
 
--- those of other targets, in order
 abbrev pub sines_left : SineTable → ℕ → List OnNoteSine
-sines_left t k = without (sine_at k) (take t.count t.items)
-
-abbrev pub sines_cleared : SineTable → ℕ → SineTable
-sines_cleared t n = record { count = n; items = put_first no_sine t.count (take n t.items) t.items }
+sines_left = left sine_key
 
 abbrev pub sines_without : SineTable → ℕ → SineTable
-sines_without t k = record { count = length (sines_left t k); items = put_first no_sine t.count (sines_left t k) t.items }
+sines_without = taken_out no_sine sine_key
 
 abbrev pub sines_with : SineTable → OnNoteSine → SineTable
-sines_with t e = record { count = t.count + 1; items = put_first no_sine t.count (take t.count t.items ++ (e ∷ [])) t.items }
+sines_with = put_in no_sine
 
-unfoldable pub ok_sines : SineTable → Bool
-ok_sines t = counted t.count places ok_sine t.items
+abbrev pub ok_sines : SineTable → Bool
+ok_sines = well ok_sine
+
+abbrev pub sine_keys : SineTable → List ℕ
+sine_keys = keys_of sine_key
 
 -- a sine of its own; 2 and then 4 give a sine of zeros
 abbrev pub sine_of : ℤ → ℕ → ℤ → ℤ → ℤ → ℤ → OnNoteSine
@@ -106,31 +118,24 @@ new_sine t s l h n k =
     (cond (ok_sine (sine_of t s l h n k)) (record { code = 0; sine = sine_of t s l h n k }) (record { code = 4; sine = no_sine }))
     (record { code = 2; sine = no_sine })
 
-abbrev pub sine_keys : SineTable → List ℕ
-sine_keys t = map (λ (e : OnNoteSine). key e.target) (take t.count t.items)
-
 -- ---- cycles
-unfoldable pub cycle_at : ℕ → Cycle → Bool
-cycle_at k e = eqb (key e.target) k
+abbrev pub cycle_at : ℕ → Cycle → Bool
+cycle_at = keyed cycle_key
 
--- those of other targets, in order
 abbrev pub cycles_left : CycleTable → ℕ → List Cycle
-cycles_left t k = without (cycle_at k) (take t.count t.items)
-
-abbrev pub cycles_cleared : CycleTable → ℕ → CycleTable
-cycles_cleared t n = record { count = n; items = put_first no_cycle t.count (take n t.items) t.items }
+cycles_left = left cycle_key
 
 abbrev pub cycles_without : CycleTable → ℕ → CycleTable
-cycles_without t k = record { count = length (cycles_left t k); items = put_first no_cycle t.count (cycles_left t k) t.items }
+cycles_without = taken_out no_cycle cycle_key
 
 abbrev pub cycles_with : CycleTable → Cycle → CycleTable
-cycles_with t e = record { count = t.count + 1; items = put_first no_cycle t.count (take t.count t.items ++ (e ∷ [])) t.items }
+cycles_with = put_in no_cycle
 
-unfoldable pub ok_cycles : CycleTable → Bool
-ok_cycles t = counted t.count places ok_cycle t.items
+abbrev pub ok_cycles : CycleTable → Bool
+ok_cycles = well ok_cycle
 
 abbrev pub cycle_keys : CycleTable → List ℕ
-cycle_keys t = map (λ (e : Cycle). key e.target) (take t.count t.items)
+cycle_keys = keys_of cycle_key
 
 -- ---- all four
 -- how many keys there may be: four tables of sixteen

@@ -3,15 +3,17 @@
 // bends being one (`cycles::key_of`).
 #![tactic(auto)]
 
-ghost use Rattle.std.specs.Prelude.{◌≡◌, ◌+◌, ◌≤◌, ◌<◌, drop, get_or};
+ghost use Rattle.std.specs.Prelude.{◌≡◌, Bool, true, [], ◌++◌, ℕ, ◌+◌, ◌≤◌, ◌<◌, length};
 ghost use Rattle.laws.specs.Lists.{all};
-ghost use Rattle.laws.specs.Keys.{absent, distinct};
+ghost use Rattle.laws.specs.Keys.{distinct};
 ghost use Rattle.numbers.specs.Limits.{places, list_limit};
 ghost use Rattle.counted.specs.Numbers.{shown};
 ghost use Rattle.counted.specs.Curves.{triples};
+ghost use Rattle.cycles.specs.Rules.{no_cycle, ok_cycle};
 ghost use Rattle.tables.specs.Reservations.{forward, ok_values, ok_wave, ok_sine};
-ghost use Rattle.tables.specs.Tables.{no_note, note_at, notes_cleared, notes_without, notes_with, ok_notes, no_wave, wave_at, waves_cleared, waves_without, waves_with, ok_waves, no_sine, sine_at, sines_cleared, sines_without, sines_with, ok_sines, new_sine, cycle_at, cycles_cleared, cycles_without, cycles_with, ok_cycles, note_keys, wave_keys, sine_keys, cycle_keys, keys_shown, keys_with, key_limit, lone};
-ghost use Rattle.tables.specs.Stored.{tested_of, ok_stored};
+ghost use Rattle.tables.specs.Sixteen.{taken_out, put_in, well, keys_of};
+ghost use Rattle.tables.specs.Tables.{no_note, no_wave, no_sine, note_key, wave_key, sine_key, cycle_key, new_sine, keys_shown, key_limit, lone};
+ghost use Rattle.tables.specs.Stored.{ok_stored};
 
 use counted::Numbers;
 use cycles::{Cycle, PLACES, key_of};
@@ -69,10 +71,9 @@ pub struct SineAnswer {
 pub fn note_ok(e: OnNoteValues) -> bool
     ensures { result ≡ ok_values e }
 {
-    let values = e.values;
     let placed = e.index <= e.values.count;
     let marked = e.cycling <= 1;
-    numbers::is_target(e.target) & placed & marked & counted::numbers_ok(values)
+    numbers::is_target(e.target) & placed & marked & counted::numbers_ok(e.values)
 }
 
 // Whether no length of a curve's triples is below 0.
@@ -80,14 +81,10 @@ fn lengths_ok(list: Numbers) -> bool
     requires { list.count ≤ list_limit }
     ensures { result ≡ all forward (triples (shown list)) }
 {
-    let n = list.count / 3;
-    let mut i: usize = 0;
-    while i < n {
-        let x = list.items[i * 3 + 2];
-        if x < 0 {
+    for i in 0..list.count / 3 {
+        if list.items[i * 3 + 2] < 0 {
             return false;
         }
-        i += 1;
     }
     true
 }
@@ -96,13 +93,12 @@ fn lengths_ok(list: Numbers) -> bool
 pub fn wave_ok(e: OnNoteWave) -> bool
     ensures { result ≡ ok_wave e }
 {
-    let values = e.values;
-    if !counted::curve_ok(values) {
+    if !counted::curve_ok(e.values) {
         return false;
     }
     let known = e.mode <= REPEAT;
     let plain = e.mode != EXPAND;
-    numbers::is_target(e.target) & known & (plain | lengths_ok(values))
+    numbers::is_target(e.target) & known & (plain | lengths_ok(e.values))
 }
 
 // Whether a sine may be stored.
@@ -118,188 +114,117 @@ pub fn sine_ok(e: OnNoteSine) -> bool
         & numbers::is_length(e.times)
 }
 
-// What an unused place of a table of lists holds.
-pub fn no_note() -> OnNoteValues
-    ensures { result ≡ no_note }
-{
-    let values = counted::empty();
-    OnNoteValues {
-        target: 0,
-        index: 0,
-        cycling: 0,
-        values: values,
-    }
+// What may stand in a table: it says what an unused place holds, what tells a record apart, and whether one may be stored.
+pub trait Reservation: Copy {
+    ghost blank: { Self };
+
+    ghost key: { Self → ℕ };
+
+    ghost ok: { Self → Bool };
+
+    fn blank() -> Self
+        ensures { result ≡ blank };
+
+    fn key(&self) -> usize
+        ensures { result ≡ key self.now };
+
+    fn is_ok(&self) -> bool
+        ensures { result ≡ ok self.now };
 }
 
-// A table of lists for notes.
-#[repr(C)]
-#[derive(Clone, Copy)]
-pub struct NoteTable {
-    pub count: usize,
-    pub items: [OnNoteValues; PLACES],
-}
+impl Reservation for OnNoteValues {
+    ghost blank = { no_note };
 
-// Whether the key is that of the note's target.
-fn note_is(e: OnNoteValues, k: usize) -> bool
-    ensures { result ≡ note_at k e }
-{
-    key_of(e.target) == k
-}
+    ghost key = { note_key };
 
-// The table with its places from `from` to its count zeroed.
-fn clear_notes(table: NoteTable, from: usize) -> NoteTable
-    requires { (from ≤ table.count) × (table.count ≤ places) }
-    ensures { result ≡ notes_cleared table from }
-{
-    let count = table.count;
-    let mut items = table.items;
-    let mut i = from;
-    while i < count {
-        items[i] = no_note();
-        i += 1;
-    }
-    NoteTable {
-        count: from,
-        items: items,
-    }
-}
+    ghost ok = { ok_values };
 
-// The table without the target of key `k`: those that stay keep their order and close up, the places left are zeroed.
-pub fn take_note(table: NoteTable, k: usize) -> NoteTable
-    requires { table.count ≤ places }
-    ensures { result ≡ notes_without table k }
-{
-    let count = table.count;
-    let mut items = table.items;
-    let mut i: usize = 0;
-    let mut n: usize = 0;
-    while i < count {
-        let e = items[i];
-        if note_is(e, k) {
-            i += 1;
-        } else {
-            items[n] = e;
-            n += 1;
-            i += 1;
+    fn blank() -> OnNoteValues {
+        OnNoteValues {
+            target: 0,
+            index: 0,
+            cycling: 0,
+            values: counted::empty(),
         }
     }
-    let closed = NoteTable {
-        count: count,
-        items: items,
-    };
-    clear_notes(closed, n)
-}
 
-// The table with one more at its end, where there is room.
-pub fn put_note(table: NoteTable, e: OnNoteValues) -> NoteTable
-    requires { table.count < places }
-    ensures { result ≡ notes_with table e }
-{
-    let n = table.count;
-    let mut items = table.items;
-    items[n] = e;
-    NoteTable {
-        count: n + 1,
-        items: items,
+    fn key(&self) -> usize {
+        key_of(self.target)
+    }
+
+    fn is_ok(&self) -> bool {
+        note_ok(*self)
     }
 }
 
-// What an unused place of a table of waves holds.
-pub fn no_wave() -> OnNoteWave
-    ensures { result ≡ no_wave }
-{
-    let values = counted::empty();
-    OnNoteWave {
-        target: 0,
-        mode: 0,
-        values: values,
-    }
-}
+impl Reservation for OnNoteWave {
+    ghost blank = { no_wave };
 
-// A table of waves for notes.
-#[repr(C)]
-#[derive(Clone, Copy)]
-pub struct WaveTable {
-    pub count: usize,
-    pub items: [OnNoteWave; PLACES],
-}
+    ghost key = { wave_key };
 
-// Whether the key is that of the wave's target.
-fn wave_is(e: OnNoteWave, k: usize) -> bool
-    ensures { result ≡ wave_at k e }
-{
-    key_of(e.target) == k
-}
+    ghost ok = { ok_wave };
 
-// The table with its places from `from` to its count zeroed.
-fn clear_waves(table: WaveTable, from: usize) -> WaveTable
-    requires { (from ≤ table.count) × (table.count ≤ places) }
-    ensures { result ≡ waves_cleared table from }
-{
-    let count = table.count;
-    let mut items = table.items;
-    let mut i = from;
-    while i < count {
-        items[i] = no_wave();
-        i += 1;
-    }
-    WaveTable {
-        count: from,
-        items: items,
-    }
-}
-
-// The table without the target of key `k`: those that stay keep their order and close up, the places left are zeroed.
-pub fn take_wave(table: WaveTable, k: usize) -> WaveTable
-    requires { table.count ≤ places }
-    ensures { result ≡ waves_without table k }
-{
-    let count = table.count;
-    let mut items = table.items;
-    let mut i: usize = 0;
-    let mut n: usize = 0;
-    while i < count {
-        let e = items[i];
-        if wave_is(e, k) {
-            i += 1;
-        } else {
-            items[n] = e;
-            n += 1;
-            i += 1;
+    fn blank() -> OnNoteWave {
+        OnNoteWave {
+            target: 0,
+            mode: 0,
+            values: counted::empty(),
         }
     }
-    let closed = WaveTable {
-        count: count,
-        items: items,
-    };
-    clear_waves(closed, n)
-}
 
-// The table with one more at its end, where there is room.
-pub fn put_wave(table: WaveTable, e: OnNoteWave) -> WaveTable
-    requires { table.count < places }
-    ensures { result ≡ waves_with table e }
-{
-    let n = table.count;
-    let mut items = table.items;
-    items[n] = e;
-    WaveTable {
-        count: n + 1,
-        items: items,
+    fn key(&self) -> usize {
+        key_of(self.target)
+    }
+
+    fn is_ok(&self) -> bool {
+        wave_ok(*self)
     }
 }
 
-// What an unused place of a table of sines holds.
-pub fn no_sine() -> OnNoteSine
-    ensures { result ≡ no_sine }
-{
-    OnNoteSine {
-        target: 0,
-        shape: 0,
-        low: 0,
-        high: 0,
-        length: 0,
-        times: 0,
+impl Reservation for OnNoteSine {
+    ghost blank = { no_sine };
+
+    ghost key = { sine_key };
+
+    ghost ok = { ok_sine };
+
+    fn blank() -> OnNoteSine {
+        OnNoteSine {
+            target: 0,
+            shape: 0,
+            low: 0,
+            high: 0,
+            length: 0,
+            times: 0,
+        }
+    }
+
+    fn key(&self) -> usize {
+        key_of(self.target)
+    }
+
+    fn is_ok(&self) -> bool {
+        sine_ok(*self)
+    }
+}
+
+impl Reservation for Cycle {
+    ghost blank = { no_cycle };
+
+    ghost key = { cycle_key };
+
+    ghost ok = { ok_cycle };
+
+    fn blank() -> Cycle {
+        Cycle::none()
+    }
+
+    fn key(&self) -> usize {
+        key_of(self.target)
+    }
+
+    fn is_ok(&self) -> bool {
+        cycles::cycle_ok(*self)
     }
 }
 
@@ -308,7 +233,7 @@ impl OnNoteSine {
     pub fn new(target: i32, shape: u32, low: i32, high: i32, length: i32, times: i32) -> SineAnswer
         ensures { result ≡ new_sine target shape low high length times }
     {
-        let none = no_sine();
+        let none = OnNoteSine::blank();
         if !numbers::is_target(target) {
             return SineAnswer {
                 code: 2,
@@ -316,12 +241,12 @@ impl OnNoteSine {
             };
         }
         let sine = OnNoteSine {
-            target: target,
-            shape: shape,
-            low: low,
-            high: high,
-            length: length,
-            times: times,
+            target,
+            shape,
+            low,
+            high,
+            length,
+            times,
         };
         if !sine_ok(sine) {
             return SineAnswer {
@@ -329,454 +254,152 @@ impl OnNoteSine {
                 sine: none,
             };
         }
-        SineAnswer {
-            code: 0,
-            sine: sine,
-        }
+        SineAnswer { code: 0, sine }
     }
 }
+
+// A table of sixteen.
+#[repr(C)]
+#[derive(Clone, Copy)]
+pub struct Table<T> {
+    pub count: usize,
+    pub items: [T; PLACES],
+}
+
+// A table of lists for notes.
+pub type NoteTable = Table<OnNoteValues>;
+
+// A table of waves for notes.
+pub type WaveTable = Table<OnNoteWave>;
 
 // A table of sines for notes.
-#[repr(C)]
-#[derive(Clone, Copy)]
-pub struct SineTable {
-    pub count: usize,
-    pub items: [OnNoteSine; PLACES],
-}
-
-// Whether the key is that of the sine's target.
-fn sine_is(e: OnNoteSine, k: usize) -> bool
-    ensures { result ≡ sine_at k e }
-{
-    key_of(e.target) == k
-}
-
-// The table with its places from `from` to its count zeroed.
-fn clear_sines(table: SineTable, from: usize) -> SineTable
-    requires { (from ≤ table.count) × (table.count ≤ places) }
-    ensures { result ≡ sines_cleared table from }
-{
-    let count = table.count;
-    let mut items = table.items;
-    let mut i = from;
-    while i < count {
-        items[i] = no_sine();
-        i += 1;
-    }
-    SineTable {
-        count: from,
-        items: items,
-    }
-}
-
-// The table without the target of key `k`: those that stay keep their order and close up, the places left are zeroed.
-pub fn take_sine(table: SineTable, k: usize) -> SineTable
-    requires { table.count ≤ places }
-    ensures { result ≡ sines_without table k }
-{
-    let count = table.count;
-    let mut items = table.items;
-    let mut i: usize = 0;
-    let mut n: usize = 0;
-    while i < count {
-        let e = items[i];
-        if sine_is(e, k) {
-            i += 1;
-        } else {
-            items[n] = e;
-            n += 1;
-            i += 1;
-        }
-    }
-    let closed = SineTable {
-        count: count,
-        items: items,
-    };
-    clear_sines(closed, n)
-}
-
-// The table with one more at its end, where there is room.
-pub fn put_sine(table: SineTable, e: OnNoteSine) -> SineTable
-    requires { table.count < places }
-    ensures { result ≡ sines_with table e }
-{
-    let n = table.count;
-    let mut items = table.items;
-    items[n] = e;
-    SineTable {
-        count: n + 1,
-        items: items,
-    }
-}
+pub type SineTable = Table<OnNoteSine>;
 
 // A table of cycles.
-#[repr(C)]
-#[derive(Clone, Copy)]
-pub struct CycleTable {
-    pub count: usize,
-    pub items: [Cycle; PLACES],
-}
+pub type CycleTable = Table<Cycle>;
 
-// Whether the key is that of the cycle's target.
-fn cycle_is(e: Cycle, k: usize) -> bool
-    ensures { result ≡ cycle_at k e }
-{
-    key_of(e.target) == k
-}
-
-// The table with its places from `from` to its count zeroed.
-fn clear_cycles(table: CycleTable, from: usize) -> CycleTable
-    requires { (from ≤ table.count) × (table.count ≤ places) }
-    ensures { result ≡ cycles_cleared table from }
-{
-    let count = table.count;
-    let mut items = table.items;
-    let mut i = from;
-    while i < count {
-        items[i] = Cycle::none();
-        i += 1;
-    }
-    CycleTable {
-        count: from,
-        items: items,
-    }
-}
-
-// The table without the target of key `k`: those that stay keep their order and close up, the places left are zeroed.
-pub fn take_cycle(table: CycleTable, k: usize) -> CycleTable
-    requires { table.count ≤ places }
-    ensures { result ≡ cycles_without table k }
-{
-    let count = table.count;
-    let mut items = table.items;
-    let mut i: usize = 0;
-    let mut n: usize = 0;
-    while i < count {
-        let e = items[i];
-        if cycle_is(e, k) {
-            i += 1;
-        } else {
-            items[n] = e;
-            n += 1;
-            i += 1;
-        }
-    }
-    let closed = CycleTable {
-        count: count,
-        items: items,
-    };
-    clear_cycles(closed, n)
-}
-
-// The table with one more at its end, where there is room.
-pub fn put_cycle(table: CycleTable, e: Cycle) -> CycleTable
-    requires { table.count < places }
-    ensures { result ≡ cycles_with table e }
-{
-    let n = table.count;
-    let mut items = table.items;
-    items[n] = e;
-    CycleTable {
-        count: n + 1,
-        items: items,
-    }
-}
-
-// Whether a table has at most sixteen cycles, each of which may be stored.
-pub fn cycles_ok(table: CycleTable) -> bool
-    ensures { result ≡ ok_cycles table }
-{
-    let n = table.count;
-    if PLACES < n {
-        return false;
-    }
-    let mut i: usize = 0;
-    while i < n {
-        let e = table.items[i];
-        if !cycles::cycle_ok(e) {
+impl<T: Reservation> Table<T> {
+    // Whether at most sixteen count, each of which may be stored.
+    pub fn is_ok(&self) -> bool
+        ensures value { result ≡ well T.ok self.now }
+        ensures few { result ≡ true → self.now.count ≤ places }
+    {
+        if PLACES < self.count {
             return false;
         }
-        i += 1;
+        for e in &self.items[..self.count] {
+            if !e.is_ok() {
+                return false;
+            }
+        }
+        true
     }
-    true
+
+    // The table without the target of key `k`: those that stay keep their order and close up, the places left are zeroed.
+    pub fn without(mut self, k: usize) -> Table<T>
+        requires { self.count ≤ places }
+        ensures { result ≡ taken_out T.blank T.key self k }
+    {
+        let mut n: usize = 0;
+        for i in 0..self.count {
+            let e = self.items[i];
+            if e.key() == k {
+                continue;
+            }
+            self.items[n] = e;
+            n += 1;
+        }
+        for j in n..self.count {
+            self.items[j] = T::blank();
+        }
+        self.count = n;
+        self
+    }
+
+    // The table with one more at its end, where there is room.
+    pub fn with(mut self, e: T) -> Table<T>
+        requires { self.count < places }
+        ensures { result ≡ put_in T.blank self e }
+    {
+        self.items[self.count] = e;
+        self.count += 1;
+        self
+    }
 }
 
 // The keys of the targets that have a reservation, as they are gathered.
 #[derive(Clone, Copy)]
 pub struct Keys {
-    pub count: usize,
+    pub count: usize, // beside an array, since the heap is not used
     pub items: [usize; KEYS],
 }
 
-// Whether no key behind place `i` is that at `i`.
-fn key_alone(keys: Keys, i: usize) -> bool
-    requires { (i < keys.count) × (keys.count ≤ key_limit) }
-    ensures { result ≡ absent (get_or keys.items i 0) (drop (i + 1) (keys_shown keys)) }
-{
-    let n = keys.count;
-    let k = keys.items[i];
-    let mut j = i + 1;
-    while j < n {
-        let x = keys.items[j];
-        if k == x {
-            return false;
+impl Keys {
+    // None yet.
+    fn none() -> Keys
+        ensures count { result.count ≡ 0 }
+        ensures shown { keys_shown result ≡ [] }
+    {
+        Keys {
+            count: 0,
+            items: [0; KEYS],
         }
-        j += 1;
     }
-    true
-}
 
-// Whether each key stands once.
-fn keys_alone(keys: Keys) -> bool
-    requires { keys.count ≤ key_limit }
-    ensures { result ≡ distinct (keys_shown keys) }
-{
-    let n = keys.count;
-    let mut i: usize = 0;
-    while i < n {
-        if !key_alone(keys, i) {
-            return false;
+    // Those of a table behind what is gathered.
+    fn gather<T: Reservation>(&mut self, table: &Table<T>)
+        requires few { table.now.count ≤ places }
+        requires room { self.old.count + table.now.count ≤ key_limit }
+        ensures count { self.new.count ≡ self.old.count + table.now.count }
+        ensures shown { keys_shown self.new ≡ keys_shown self.old ++ keys_of T.key table.now }
+    {
+        let first = self.count;
+        for i in 0..table.count {
+            self.items[first + i] = table.items[i].key();
         }
-        i += 1;
+        self.count = first + table.count;
     }
-    true
-}
 
-// The keys gathered so far, with those of a table of lists for notes behind them.
-fn note_keys(table: NoteTable, keys: Keys) -> Keys
-    requires { (table.count ≤ places) × (keys.count + table.count ≤ key_limit) }
-    ensures { result ≡ keys_with keys (note_keys table) }
-{
-    let count = table.count;
-    let first = keys.count;
-    let mut items = keys.items;
-    let mut i: usize = 0;
-    while i < count {
-        let e = table.items[i];
-        items[first + i] = key_of(e.target);
-        i += 1;
-    }
-    Keys {
-        count: first + count,
-        items: items,
-    }
-}
-
-// The keys gathered so far, with those of a table of waves for notes behind them.
-fn wave_keys(table: WaveTable, keys: Keys) -> Keys
-    requires { (table.count ≤ places) × (keys.count + table.count ≤ key_limit) }
-    ensures { result ≡ keys_with keys (wave_keys table) }
-{
-    let count = table.count;
-    let first = keys.count;
-    let mut items = keys.items;
-    let mut i: usize = 0;
-    while i < count {
-        let e = table.items[i];
-        items[first + i] = key_of(e.target);
-        i += 1;
-    }
-    Keys {
-        count: first + count,
-        items: items,
-    }
-}
-
-// The keys gathered so far, with those of a table of sines for notes behind them.
-fn sine_keys(table: SineTable, keys: Keys) -> Keys
-    requires { (table.count ≤ places) × (keys.count + table.count ≤ key_limit) }
-    ensures { result ≡ keys_with keys (sine_keys table) }
-{
-    let count = table.count;
-    let first = keys.count;
-    let mut items = keys.items;
-    let mut i: usize = 0;
-    while i < count {
-        let e = table.items[i];
-        items[first + i] = key_of(e.target);
-        i += 1;
-    }
-    Keys {
-        count: first + count,
-        items: items,
-    }
-}
-
-// The keys gathered so far, with those of a table of cycles behind them.
-fn cycle_keys(table: CycleTable, keys: Keys) -> Keys
-    requires { (table.count ≤ places) × (keys.count + table.count ≤ key_limit) }
-    ensures { result ≡ keys_with keys (cycle_keys table) }
-{
-    let count = table.count;
-    let first = keys.count;
-    let mut items = keys.items;
-    let mut i: usize = 0;
-    while i < count {
-        let e = table.items[i];
-        items[first + i] = key_of(e.target);
-        i += 1;
-    }
-    Keys {
-        count: first + count,
-        items: items,
+    // Whether each stands once.
+    fn alone(&self) -> bool
+        requires { self.now.count ≤ key_limit }
+        ensures { result ≡ distinct (keys_shown self.now) }
+    {
+        let n = self.count;
+        for i in 0..n {
+            if self.items[i + 1..n].contains(&self.items[i]) {
+                return false;
+            }
+        }
+        true
     }
 }
 
 // Whether no target has two reservations, over all four tables.
+#[tactic(auto, unfolding(crate::specs::Tables::lone))]
 pub fn lone_ok(notes: NoteTable, waves: WaveTable, sines: SineTable, cycles: CycleTable) -> bool
     requires { (notes.count ≤ places) × (waves.count ≤ places) × (sines.count ≤ places) × (cycles.count ≤ places) }
     ensures { result ≡ lone notes waves sines cycles }
 {
-    let none = Keys {
-        count: 0,
-        items: [0; KEYS],
-    };
-    let a = note_keys(notes, none);
-    let b = wave_keys(waves, a);
-    let c = sine_keys(sines, b);
-    let d = cycle_keys(cycles, c);
-    keys_alone(d)
+    let mut keys = Keys::none();
+    keys.gather(&notes);
+    keys.gather(&waves);
+    keys.gather(&sines);
+    keys.gather(&cycles);
+    keys.alone()
 }
 
-// Whether a table has at most sixteen records, each of which may be stored, and the keys gathered so far: with the table's behind
-// them, where it has.
-#[derive(Clone, Copy)]
-pub struct Tested {
-    pub ok: bool,
-    pub keys: Keys,
-}
-
-// Tests a table of lists for notes, and gathers its keys on the way.
-fn test_notes(table: NoteTable, keys: Keys) -> Tested
-    requires { keys.count + places ≤ key_limit }
-    ensures { result ≡ tested_of (ok_notes table) keys (note_keys table) }
-{
-    let n = table.count;
-    if PLACES < n {
-        return Tested {
-            ok: false,
-            keys: keys,
-        };
-    }
-    let first = keys.count;
-    let mut items = keys.items;
-    let mut i: usize = 0;
-    while i < n {
-        let e = table.items[i];
-        if !note_ok(e) {
-            return Tested {
-                ok: false,
-                keys: keys,
-            };
-        }
-        items[first + i] = key_of(e.target);
-        i += 1;
-    }
-    let all = Keys {
-        count: first + n,
-        items: items,
-    };
-    Tested {
-        ok: true,
-        keys: all,
-    }
-}
-
-// Tests a table of waves for notes, and gathers its keys on the way.
-fn test_waves(table: WaveTable, keys: Keys) -> Tested
-    requires { keys.count + places ≤ key_limit }
-    ensures { result ≡ tested_of (ok_waves table) keys (wave_keys table) }
-{
-    let n = table.count;
-    if PLACES < n {
-        return Tested {
-            ok: false,
-            keys: keys,
-        };
-    }
-    let first = keys.count;
-    let mut items = keys.items;
-    let mut i: usize = 0;
-    while i < n {
-        let e = table.items[i];
-        if !wave_ok(e) {
-            return Tested {
-                ok: false,
-                keys: keys,
-            };
-        }
-        items[first + i] = key_of(e.target);
-        i += 1;
-    }
-    let all = Keys {
-        count: first + n,
-        items: items,
-    };
-    Tested {
-        ok: true,
-        keys: all,
-    }
-}
-
-// Tests a table of sines for notes, and gathers its keys on the way.
-fn test_sines(table: SineTable, keys: Keys) -> Tested
-    requires { keys.count + places ≤ key_limit }
-    ensures { result ≡ tested_of (ok_sines table) keys (sine_keys table) }
-{
-    let n = table.count;
-    if PLACES < n {
-        return Tested {
-            ok: false,
-            keys: keys,
-        };
-    }
-    let first = keys.count;
-    let mut items = keys.items;
-    let mut i: usize = 0;
-    while i < n {
-        let e = table.items[i];
-        if !sine_ok(e) {
-            return Tested {
-                ok: false,
-                keys: keys,
-            };
-        }
-        items[first + i] = key_of(e.target);
-        i += 1;
-    }
-    let all = Keys {
-        count: first + n,
-        items: items,
-    };
-    Tested {
-        ok: true,
-        keys: all,
-    }
-}
-
-// Whether the tables that a track holds may be stored, and no target has two reservations in them. Each table is tested where its
-// keys are gathered, so that the compiled code copies it once.
+// Whether the tables that a track holds may be stored, and no target has two reservations in them.
+#[tactic(auto, unfolding(crate::specs::Stored::ok_stored))]
 pub fn stored_ok(notes: NoteTable, waves: WaveTable, sines: SineTable) -> bool
     ensures { result ≡ ok_stored notes waves sines }
 {
-    let none = Keys {
-        count: 0,
-        items: [0; KEYS],
-    };
-    let a = test_notes(notes, none);
-    if !a.ok {
+    if !(notes.is_ok() & waves.is_ok() & sines.is_ok()) {
         return false;
     }
-    let one = a.keys;
-    let b = test_waves(waves, one);
-    if !b.ok {
-        return false;
-    }
-    let two = b.keys;
-    let c = test_sines(sines, two);
-    if !c.ok {
-        return false;
-    }
-    let all = c.keys;
-    keys_alone(all)
+    let mut keys = Keys::none();
+    keys.gather(&notes);
+    keys.gather(&waves);
+    keys.gather(&sines);
+    keys.alone()
 }

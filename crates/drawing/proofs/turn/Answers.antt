@@ -8,21 +8,22 @@ use mir.Syntax.{w32}
 use mir.Val.{SFits, to_z, of_z}
 use mir.Facts.{to_z-of_z}
 use Rattle.cycles.specs.Due.{key}
+use Rattle.tables.specs.Sixteen.{keyed}
 use Rattle.tables.specs.Tables.{note_at}
 use Rattle.drawing.specs.Options.{turned}
 use Rattle.drawing.proofs.turn.Goals as goal
 
-keyed : {n : ℕ} (z : ℤ) → SFits w32 z → n ≡ key (to_z w32 (of_z w32 z)) → n ≡ key z
-keyed z f e = e ∙ ap key (to_z-of_z f)
+same_key : {n : ℕ} (z : ℤ) → SFits w32 z → n ≡ key (to_z w32 (of_z w32 z)) → n ≡ key z
+same_key z f e = e ∙ ap key (to_z-of_z f)
 
 pub returns-then-key_of-k : goal.returns-then-key_of-k
-unfolding turned note_at
+unfolding turned keyed
 returns-then-key_of-k c =
     let f : SFits w32 c.args.e.target = search rules in
-    rw (← keyed c.args.e.target f c.key_of.ensures, eq-eqb _ _ c.if-key_of-k.true)
+    rw (← same_key c.args.e.target f c.key_of.ensures, eq-eqb _ _ c.if-key_of-k.true)
 
 pub returns : goal.returns
-unfolding turned note_at
+unfolding turned keyed
 returns c =
     let f : SFits w32 c.args.e.target = search rules in
-    rw (← keyed c.args.e.target f c.key_of.ensures, ne_eqb _ _ c.if-key_of-k.false)
+    rw (← same_key c.args.e.target f c.key_of.ensures, ne_eqb _ _ c.if-key_of-k.false)

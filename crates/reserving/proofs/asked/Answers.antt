@@ -4,7 +4,7 @@ use mathlib.Core.Bool.{true, false, ◌&&◌}
 use mir.Syntax.{w32}
 use Rattle.laws.proofs.Tests.{is_at, both}
 use Rattle.numbers.specs.Ranges.{is_target}
-use Rattle.tables.specs.declared.CycleTable.{CycleTable}
+use Rattle.tables.specs.Tables.{CycleTable}
 use Rattle.tables.specs.Tables.{ok_cycles, lone}
 use Rattle.state.specs.Tests.{ok_track, ok_lent}
 use Rattle.state.proofs.Lent.{untracked, tracked, behind}

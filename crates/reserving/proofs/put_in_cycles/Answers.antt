@@ -9,7 +9,7 @@ use lib.Dec.{leb, ltb}
 use Rattle.laws.proofs.Ranges.{left, right}
 use Rattle.numbers.specs.Limits.{places}
 use Rattle.cycles.specs.declared.Cycle.{Cycle}
-use Rattle.tables.specs.declared.CycleTable.{CycleTable}
+use Rattle.tables.specs.Tables.{CycleTable}
 use Rattle.tables.specs.Tables.{notes_without, waves_without, sines_without, cycles_without, cycles_with}
 use Rattle.state.specs.declared.Track.{Track}
 use Rattle.state.specs.Track.{cycles_of, with_tables}

@@ -2,8 +2,8 @@
 use mathlib.Core.Path.{◌≡◌, refl, ap, ◌∙◌}
 use borrow.Author.Rules.{rules}
 use borrow.Author.Tests.{le-ltb, lt-ltb}
-use Rattle.tables.specs.declared.WaveTable.{WaveTable}
-use Rattle.tables.specs.declared.CycleTable.{CycleTable}
+use Rattle.tables.specs.Tables.{WaveTable}
+use Rattle.tables.specs.Tables.{CycleTable}
 use Rattle.tables.specs.Tables.{waves_without, waves_with, cycles_without}
 use Rattle.state.proofs.Lent.{notes-few, waves-few, sines-few, cycles-few}
 use Rattle.reserving.specs.Clearing.{cleared}

@@ -4,7 +4,7 @@ use borrow.Author.Rules.{rules}
 use mir.Syntax.{w32}
 use mir.Val.{to_z, of_z}
 use Rattle.cycles.specs.Due.{key}
-use Rattle.tables.specs.declared.NoteTable.{NoteTable}
+use Rattle.tables.specs.Tables.{NoteTable}
 use Rattle.tables.specs.Tables.{notes_without}
 use Rattle.state.specs.Track.{with_tables}
 use Rattle.state.specs.Calls.{answer}

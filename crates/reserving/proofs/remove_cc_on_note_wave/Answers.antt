@@ -4,8 +4,8 @@ use borrow.Author.Rules.{rules}
 use mir.Syntax.{w32}
 use mir.Val.{to_z, of_z}
 use Rattle.cycles.specs.Due.{key}
-use Rattle.tables.specs.declared.WaveTable.{WaveTable}
-use Rattle.tables.specs.declared.SineTable.{SineTable}
+use Rattle.tables.specs.Tables.{WaveTable}
+use Rattle.tables.specs.Tables.{SineTable}
 use Rattle.tables.specs.Tables.{waves_without, sines_without}
 use Rattle.state.specs.Track.{with_tables}
 use Rattle.state.specs.Calls.{answer}

@@ -1,12 +1,7 @@
--- `tables::lengths_ok` tests the triples from the front (laws, Tests): the third number of triple i stands at i * 3 + 2.
-use mathlib.Core.Path.{◌≡◌, refl, ap, ◌∙◌}
-use mathlib.Core.Bool.{not}
-use Prim.Native.Nat.{ℕ, ◌+◌, ◌*◌, ◌≤◌, ◌<◌, ◌/◌}
-use native.Mathlib.Omega.{arith}
-use borrow.Author.Rules.{rules}
-use lib.IntN.{pos}
+-- the triples so far are forward (laws, Tests): the third number of triple i stands at i * 3 + 2
+use Rattle.std.proofs.Common.{rules, ◌≡◌, ap, ◌∙◌, not, ℕ, ◌+◌, ◌*◌, ◌/◌, ◌≤◌, ◌<◌, length, get_or, arith}
+use Rattle.std.proofs.Common.{pos}
 use lib.Signed.{lt_z}
-use lib.ListN.{length, get_or}
 use mir.Syntax.{w32}
 use mir.Val.{SFits}
 use Rattle.laws.proofs.Signed.{lt-back-l}
@@ -25,32 +20,27 @@ third : (a : Numbers) → a.count ≤ length a.items → (i : ℕ) → i < a.cou
 unfolding forward
 third a m i h = ap forward (triple-at a m i h)
 
-pub loop-i-init : goal.loop-i-init
-loop-i-init c = (search rules, refl)
-
-pub returns-then-x-lt0 : goal.returns-then-x-lt0
-returns-then-x-lt0 c =
+pub returns-then-list-i-lt0 : goal.returns-then-list-i-lt0
+returns-then-list-i-lt0 c =
     let a = c.args.list in
     let e : length a.items ≡ list_limit = search rules in
     let h = length-triples a (search rules) in
     let f : SFits w32 (get_or a.items (c.loop-i.i * 3 + 2) (pos 0)) = search rules in
     failed forward (triples (shown a)) c.loop-i.i no_triple (omega arith)
-    (third a (search rules) c.loop-i.i (search rules) ∙ ap not (lt-back-l (pos 0) f c.if-x-lt0.true)) c.loop-i.invariant.1
+    (third a (search rules) c.loop-i.i (search rules) ∙ ap not (lt-back-l (pos 0) f c.if-list-i-lt0.true)) c.loop-i.invariant
 
 pub loop-i-preserved : goal.loop-i-preserved
 loop-i-preserved c =
     let a = c.args.list in
     let e : length a.items ≡ list_limit = search rules in
     let h = length-triples a (search rules) in
-    let f : SFits w32 (get_or a.items (c.loop-i.i * 3 + 2) (pos 0)) = search rules in (
-      search rules,
-      passed forward (triples (shown a)) c.loop-i.i no_triple (omega arith)
-          (third a (search rules) c.loop-i.i (search rules) ∙ ap not (lt-back-l (pos 0) f c.if-x-lt0.false)) c.loop-i.invariant.1,
-    )
+    let f : SFits w32 (get_or a.items (c.loop-i.i * 3 + 2) (pos 0)) = search rules in
+    passed forward (triples (shown a)) c.loop-i.i no_triple (omega arith)
+    (third a (search rules) c.loop-i.i (search rules) ∙ ap not (lt-back-l (pos 0) f c.if-list-i-lt0.false)) c.loop-i.invariant
 
 pub returns : goal.returns
 returns c =
     let a = c.args.list in
     let e : length a.items ≡ list_limit = search rules in
     let h = length-triples a (search rules) in
-    ended forward (triples (shown a)) c.loop-i.i (omega arith) c.loop-i.invariant.1
+    ended forward (triples (shown a)) c.loop-i.i (omega arith) c.loop-i.invariant

@@ -1,5 +1,4 @@
--- `tables::lengths_ok` tests the triples from the front (laws, Tests): the third number of triple i stands at i * 3 + 2.
-use Prim.Native.Nat.{◌≤◌, ◌-◌}
+-- the triples so far are forward (laws, Tests)
 use Rattle.laws.proofs.Tests.{Left}
 use Rattle.counted.specs.Numbers.{shown}
 use Rattle.counted.specs.Curves.{triples}
@@ -7,7 +6,4 @@ use Rattle.tables.specs.Reservations.{forward}
 use Rattle.tables.proofs.lengths_ok.Given as goal
 
 abbrev pub invariant-loop-i : goal.invariant-loop-i
-invariant-loop-i l = (l.i ≤ l.n) × Left forward (triples (shown l.list)) l.i
-
-abbrev pub decreases-loop-i : goal.decreases-loop-i
-decreases-loop-i l = l.n - l.i
+invariant-loop-i l = Left forward (triples (shown l.list)) l.i

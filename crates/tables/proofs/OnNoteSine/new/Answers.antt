@@ -55,12 +55,12 @@ tested-at-2 c =
 
 pub returns-then-not-is_target : goal.returns-then-not-is_target
 unfolding new_sine
-returns-then-not-is_target c = rw (c.no_sine-none.ensures, sym (aimed c) ∙ c.if-not-is_target.true)
+returns-then-not-is_target c = rw (c.blank-none.ensures, sym (aimed c) ∙ c.if-not-is_target.true)
 
 pub returns-then-not-sine_ok : goal.returns-then-not-sine_ok
 unfolding new_sine
 returns-then-not-sine_ok c =
-    rw (c.no_sine-none.ensures, sym (aimed-at-2 c) ∙ c.if-not-is_target.false, sym (tested c) ∙ c.if-not-sine_ok.true)
+    rw (c.blank-none.ensures, sym (aimed-at-2 c) ∙ c.if-not-is_target.false, sym (tested c) ∙ c.if-not-sine_ok.true)
 
 pub returns : goal.returns
 returns c =
