@@ -77,7 +77,7 @@ loop-i-preserved-then-is_spent c =
     let t = c.args.table in
     let v = c.loop-i in
     C.taken_out no_note spent t.items t.count (fit-at-3 c) v.notes.items v.n v.i v.invariant (less-at-3 c) past
-    c.no_note-none.result c.no_note-none.ensures c.is_spent.result c.is_spent.ensures c.if-is_spent.true
+    c.blank-none.result c.blank-none.ensures c.is_spent.result c.is_spent.ensures c.if-is_spent.true
 
 pub offset_bounds-notes-n : goal.offset_bounds-notes-n
 offset_bounds-notes-n c = omega (arith, few-at-4 c)
@@ -93,7 +93,7 @@ loop-i-preserved c =
     let t = c.args.table in
     let v = c.loop-i in
     C.stays no_note spent t.items t.count (fit-at-4 c) v.notes.items v.n v.i v.invariant (less-at-4 c) past
-    c.no_note-none.result c.no_note-none.ensures c.is_spent.result c.is_spent.ensures c.if-is_spent.false
+    c.blank-none.result c.blank-none.ensures c.is_spent.result c.is_spent.ensures c.if-is_spent.false
 
 pub returns : goal.returns
 returns c =

@@ -1,4 +1,5 @@
 -- `put_in_cycles`: the same with a cycle, which stands in the lent table, or with none.
+use native.Mathlib.Omega.{arith}
 use mathlib.Core.Path.{◌≡◌, refl, ap, ◌∙◌}
 use mathlib.Core.Bool.{Bool, true, false, cond, not, ◌&&◌, ◌||◌}
 use mathlib.Core.List.{List}
@@ -18,7 +19,7 @@ use Rattle.reserving.specs.declared.Kept.{Kept}
 use Rattle.reserving.specs.Clearing.{answer, cleared}
 use Rattle.reserving.specs.Setting.{cycle_room, with_cycle}
 use Rattle.reserving.proofs.Settling.{no_place, put_in}
-use Rattle.reserving.proofs.put_in_cycles.Goals.{After-take_cycle-free}
+use Rattle.reserving.proofs.put_in_cycles.Goals.{After-without-free}
 use Rattle.reserving.proofs.put_in_cycles.Goals as goal
 
 -- a place is asked for where something is put
@@ -43,35 +44,35 @@ module _ (a : Track) (cs : List Cycle) (k : ℕ) (e : Cycle) where
   chosen false = refl
 
 -- the cycles that are left
-freed : (c : After-take_cycle-free) → c.take_cycle-free.result ≡ rest c.args.track c.args.cycles c.args.k c.args.e
-freed c = c.take_cycle-free.ensures ∙ ap (λ (t : CycleTable). cycles_without t c.args.k) c.cycles_of-own.ensures
+freed : (c : After-without-free) → c.without-free.result ≡ rest c.args.track c.args.cycles c.args.k c.args.e
+freed c = c.without-free.ensures ∙ ap (λ (t : CycleTable). cycles_without t c.args.k) c.cycles_of-own.ensures
 
-pub take_cycle-free-requires : goal.take_cycle-free-requires
-take_cycle-free-requires c = rw c.cycles_of-own.ensures (cycles-few _ _ c.requires)
+pub without-free-requires : goal.without-free-requires
+without-free-requires c = (omega arith, rw c.cycles_of-own.ensures (cycles-few _ _ c.requires))
 
 pub returns-then-gone-free : goal.returns-then-gone-free
 unfolding cleared
 returns-then-gone-free c =
     let s = c.args in
     no_place s.track s.cycles (λ (f : Kept). s.gone || cycle_room f) (λ (f : Kept). cond s.gone f (with_cycle s.e f)) (cleared s.track s.cycles s.k) refl
-    (full s.gone (rest s.track s.cycles s.k s.e).count (rw (freed (goal.at.returns-then-gone-free c).After-take_cycle-free) at c.if-gone-free.true))
+    (full s.gone (rest s.track s.cycles s.k s.e).count (rw (freed (goal.at.returns-then-gone-free c).After-without-free) at c.if-gone-free.true))
 
-pub take_note-requires : goal.take_note-requires
-take_note-requires c = notes-few _ _ c.requires
+pub without-requires : goal.without-requires
+without-requires c = (omega arith, notes-few _ _ c.requires)
 
-pub take_wave-requires : goal.take_wave-requires
-take_wave-requires c = waves-few _ _ c.requires
+pub without-requires-2 : goal.without-requires-2
+without-requires-2 c = (omega arith, waves-few _ _ c.requires)
 
-pub take_sine-requires : goal.take_sine-requires
-take_sine-requires c = sines-few _ _ c.requires
+pub without-requires-3 : goal.without-requires-3
+without-requires-3 c = (omega arith, sines-few _ _ c.requires)
 
 pub returns : goal.returns
 unfolding cleared
 returns c =
     let s = c.args in
-    let kept = freed (goal.at.returns c).After-take_cycle-free in
+    let kept = freed (goal.at.returns c).After-without-free in
     let made = c.cycles_with.ensures ∙ ap (λ (x : CycleTable). cond s.gone x (cycles_with x s.e)) kept in
     c.with_tables.ensures
-    ∙ rw (c.take_note.ensures, c.take_wave.ensures, c.take_sine.ensures, made) (chosen s.track s.cycles s.k s.e s.gone)
+    ∙ rw (c.without.ensures, c.without-2.ensures, c.without-3.ensures, made) (chosen s.track s.cycles s.k s.e s.gone)
     ∙ put_in s.track s.cycles (λ (f : Kept). s.gone || cycle_room f) (λ (f : Kept). cond s.gone f (with_cycle s.e f)) (cleared s.track s.cycles s.k) refl
     (roomy s.gone (rest s.track s.cycles s.k s.e).count (rw kept at c.if-gone-free.false))

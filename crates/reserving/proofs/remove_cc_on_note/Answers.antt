@@ -1,4 +1,5 @@
 -- `remove_cc_on_note`: the number that was asked chooses.
+use native.Mathlib.Omega.{arith}
 use mathlib.Core.Path.{◌≡◌, sym, ap, ◌∙◌}
 use borrow.Author.Rules.{rules}
 use mir.Syntax.{w32}
@@ -27,9 +28,9 @@ pub returns-then-code-ne0 : goal.returns-then-code-ne0
 unfolding remove_cc_on_note
 returns-then-code-ne0 c = refused-by (code_is (goal.at.returns-then-code-ne0 c).After-asked_alone-code) _ _ c.if-code-ne0.true
 
-pub take_note-track-requires : goal.take_note-track-requires
-take_note-track-requires c =
-    notes-few _ (usable _ _ (sym (code_is (goal.at.take_note-track-requires c).After-asked_alone-code) ∙ c.if-code-ne0.false))
+pub without-track-requires : goal.without-track-requires
+without-track-requires c =
+    (omega arith, notes-few _ (usable _ _ (sym (code_is (goal.at.without-track-requires c).After-asked_alone-code) ∙ c.if-code-ne0.false)))
 
 pub returns : goal.returns
 unfolding remove_cc_on_note
@@ -37,5 +38,5 @@ returns c =
     let a = c.args.track in
     let d = (goal.at.returns c).After-asked_alone-code in
     ap (λ (t : NoteTable). answer 0 (with_tables a t a.waves a.sines a.cycles))
-    (c.take_note-track.ensures ∙ ap (notes_without a.notes) (c.key_of-key.ensures ∙ ap key (aimed d)))
+    (c.without-track.ensures ∙ ap (notes_without a.notes) (c.key_of-key.ensures ∙ ap key (aimed d)))
     ∙ done-by (code_is d) _ _ c.if-code-ne0.false

@@ -1,4 +1,5 @@
 -- `remove_cc_on_note_wave`: the number that was asked chooses.
+use native.Mathlib.Omega.{arith}
 use mathlib.Core.Path.{◌≡◌, sym, ap, ap₂, ◌∙◌}
 use borrow.Author.Rules.{rules}
 use mir.Syntax.{w32}
@@ -28,13 +29,13 @@ pub returns-then-code-ne0 : goal.returns-then-code-ne0
 unfolding remove_cc_on_note_wave
 returns-then-code-ne0 c = refused-by (code_is (goal.at.returns-then-code-ne0 c).After-asked_alone-code) _ _ c.if-code-ne0.true
 
-pub take_wave-track-requires : goal.take_wave-track-requires
-take_wave-track-requires c =
-    waves-few _ (usable _ _ (sym (code_is (goal.at.take_wave-track-requires c).After-asked_alone-code) ∙ c.if-code-ne0.false))
+pub without-track-requires : goal.without-track-requires
+without-track-requires c =
+    (omega arith, waves-few _ (usable _ _ (sym (code_is (goal.at.without-track-requires c).After-asked_alone-code) ∙ c.if-code-ne0.false)))
 
-pub take_sine-track-requires : goal.take_sine-track-requires
-take_sine-track-requires c =
-    sines-few _ (usable _ _ (sym (code_is (goal.at.take_sine-track-requires c).After-asked_alone-code) ∙ c.if-code-ne0.false))
+pub without-track-requires-2 : goal.without-track-requires-2
+without-track-requires-2 c =
+    (omega arith, sines-few _ (usable _ _ (sym (code_is (goal.at.without-track-requires-2 c).After-asked_alone-code) ∙ c.if-code-ne0.false)))
 
 pub returns : goal.returns
 unfolding remove_cc_on_note_wave
@@ -43,5 +44,5 @@ returns c =
     let d = (goal.at.returns c).After-asked_alone-code in
     let target = c.key_of-key.ensures ∙ ap key (aimed d) in
     ap₂ (λ (t : WaveTable) (u : SineTable). answer 0 (with_tables a a.notes t u a.cycles))
-    (c.take_wave-track.ensures ∙ ap (waves_without a.waves) target) (c.take_sine-track.ensures ∙ ap (sines_without a.sines) target)
+    (c.without-track.ensures ∙ ap (waves_without a.waves) target) (c.without-track-2.ensures ∙ ap (sines_without a.sines) target)
     ∙ done-by (code_is d) _ _ c.if-code-ne0.false
