@@ -20,7 +20,7 @@ use Rattle.cycles.specs.Due.{gap, steps, due_count, owed, code_of}
 use Rattle.cycles.specs.Rules.{no_cycle, ok_cycle}
 use Rattle.cycles.specs.Calls.{Until, hits}
 use Rattle.cycles.specs.Promise.{Done}
-use Rattle.tables.specs.Sixteen.{well}
+use Rattle.tables.specs.Sixteen.{ok_sixteen}
 use Rattle.tables.specs.Tables.{ok_cycles, lone}
 use Rattle.state.specs.declared.Track.{Track}
 use Rattle.state.specs.Track.{new_track, with_tables, no_notes, no_waves, no_sines}
@@ -61,7 +61,7 @@ unfolding is_list
 list-ok = refl
 
 table-ok : ok_lent track lent.cycles ≡ true
-unfolding ok_lent new_track well lone counted all ok_cycle is_target is_length is_stored_time ok_numbers is_number inside sized distinct absent zeros code_of
+unfolding ok_lent new_track ok_sixteen lone counted all ok_cycle is_target is_length is_stored_time ok_numbers is_number inside sized distinct absent zeros code_of
 table-ok = rw track-ok
 
 budget-ok : ok_budget lent.budget ≡ true

@@ -24,7 +24,7 @@ use Rattle.cycles.specs.Rules.{ok_cycle, keys_of, ok_table}
 use Rattle.cycles.specs.Calls.{State, Turn, seeded, limit, wrote, push_all, share, moved, call}
 use Rattle.cycles.proofs.Keeping.{keys-leaves, table_kept}
 use Rattle.cycles.proofs.Push.{call-one-pass}
-use Rattle.tables.specs.Sixteen.{well}
+use Rattle.tables.specs.Sixteen.{ok_sixteen}
 use Rattle.tables.specs.Tables.{note_keys, wave_keys, sine_keys, ok_cycles, lone}
 use Rattle.tables.proofs.Keeping.{cycle-rules}
 use Rattle.state.specs.declared.Track.{Track}
@@ -56,9 +56,9 @@ lent-rules a cs e = cycle-rules a.notes a.waves a.sines (cycles_of a cs) (lent-l
 
 -- a table whose used records have the keys that they had, each well
 pub lent-kept : (a : Track) (cs cs' : List Cycle) → ok_lent a cs ≡ true → keys_of (used_of a cs') ≡ keys_of (used_of a cs) → all ok_cycle (used_of a cs') ≡ true → ok_lent a cs' ≡ true
-unfolding ok_lent well counted lone
+unfolding ok_lent ok_sixteen counted lone
 lent-kept a cs cs' e k o =
-    let few : leb a.cycles places ≡ true = left (leb a.cycles places) (all ok_cycle (used_of a cs)) (unfold ok_cycles counted in lent-cycles a cs e) in
+    let few : leb a.cycles places ≡ true = left (leb a.cycles places) (all ok_cycle (used_of a cs)) (unfold ok_sixteen counted in lent-cycles a cs e) in
     let once : distinct (note_keys a.notes ++ wave_keys a.waves ++ sine_keys a.sines ++ keys_of (used_of a cs)) ≡ true = unfold lone in lent-lone a cs e in
     rw (lent-track a cs e, few, o, k) once
 

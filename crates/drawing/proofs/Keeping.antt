@@ -20,7 +20,7 @@ use Rattle.values.specs.Options.{ok_option}
 use Rattle.values.proofs.Options.{option-ranged, option-repeat, option-ends, option-delay, option-random, option-whole}
 use Rattle.cycles.specs.Due.{key}
 use Rattle.tables.specs.declared.OnNoteValues.{OnNoteValues}
-use Rattle.tables.specs.Sixteen.{well}
+use Rattle.tables.specs.Sixteen.{ok_sixteen}
 use Rattle.tables.specs.Tables.{NoteTable}
 use Rattle.tables.specs.Reservations.{ok_values}
 use Rattle.tables.specs.Tables.{note_at, note_keys, ok_notes, lone}
@@ -113,7 +113,7 @@ module _ (k n : ℕ) (few : leb n 1 ≡ true) where
     lists = take-over (turned k n) t.count t.items
 
     notes-well : ok_notes t ≡ true → ok_notes (notes_turned t k n) ≡ true
-    unfolding well counted notes_turned
+    unfolding ok_sixteen counted notes_turned
     notes-well e =
         let used = take t.count t.items in
         rw (left (leb t.count places) (all ok_values used) e) (ap (all ok_values) lists ∙ all_map ok_values ok_values (turned k n) turned-well used (right (leb t.count places) (all ok_values used) e))

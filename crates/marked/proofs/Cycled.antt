@@ -23,7 +23,7 @@ use Rattle.cycles.specs.Due.{write_of, advanced, run, after, gap, steps, due_cou
 use Rattle.cycles.specs.Rules.{ok_cycle}
 use Rattle.cycles.specs.Calls.{limit, wrote, push, share, moved as table_moved, call}
 use Rattle.cycles.specs.Turns.{turn, called_state}
-use Rattle.tables.specs.Sixteen.{well}
+use Rattle.tables.specs.Sixteen.{ok_sixteen}
 use Rattle.tables.specs.Tables.{ok_cycles, lone}
 use Rattle.state.specs.Track.{new_track}
 use Rattle.state.specs.Calls.{new_of, answered}
@@ -41,11 +41,11 @@ unfolding new_of answered is_timebase inside new_track ok_play
 well = whole cycling (track-play new new-well) (track-params new new-well) (track-layers new new-well) (track-options new new-well) (track-tables new new-well) refl
 
 lent-well : ok_lent cycling (table (pos 0) 0) ≡ true
-unfolding ok_lent well counted all ok_cycle is_target inside is_length sized is_stored_time ok_numbers is_number zeros lone distinct absent new_of answered is_timebase new_track code_of
+unfolding ok_lent ok_sixteen counted all ok_cycle is_target inside is_length sized is_stored_time ok_numbers is_number zeros lone distinct absent new_of answered is_timebase new_track code_of
 lent-well = rw well refl
 
 empty-well : ok_lent new no_cycles ≡ true
-unfolding ok_lent well counted all lone distinct new_of answered is_timebase inside new_track code_of is_target
+unfolding ok_lent ok_sixteen counted all lone distinct new_of answered is_timebase inside new_track code_of is_target
 empty-well = rw new-well refl
 
 -- ---- setting it

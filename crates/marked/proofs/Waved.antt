@@ -24,7 +24,7 @@ use Rattle.values.specs.Clamp.{top_of, scaled_for, clamped}
 use Rattle.values.specs.Value.{kind_of, event_for, start_of, time_of, event_of_offer}
 use Rattle.tables.specs.declared.OnNoteWave.{OnNoteWave}
 use Rattle.tables.specs.Reservations.{expand, forward, ok_wave}
-use Rattle.tables.specs.Sixteen.{well}
+use Rattle.tables.specs.Sixteen.{ok_sixteen}
 use Rattle.tables.specs.Tables.{waves_with, ok_notes, ok_waves, ok_sines, ok_cycles, lone}
 use Rattle.offers.specs.Rules.{rule_of, fresh, become, seeds_after, spent}
 use Rattle.offers.specs.Runs.{offered, new_events, budget_after}
@@ -65,7 +65,7 @@ quick-is : (set_cc_freq new (pos 1)).track ≡ quick
 quick-is = accepted (demand (ok_track new && is_length (pos 1))) new quick quick-allowed
 
 quick-lent : ok_lent quick no_cycles ≡ true
-unfolding ok_lent well counted all lone distinct new_of answered is_timebase inside new_track
+unfolding ok_lent ok_sixteen counted all lone distinct new_of answered is_timebase inside new_track
 quick-lent = rw quick-well refl
 
 -- ---- the wave, and the note's end
@@ -81,7 +81,7 @@ ended v n = with_timepos (wavy v) (pos n)
 
 module _ (v : List ℤ) (n : ℕ) (short : is_short v ≡ true) (e : ok_wave (wave v) ≡ true) (m : is_time (pos n) ≡ true) where
   wavy-well : ok_track (wavy v) ≡ true
-  unfolding ok_play ok_tables well counted all lone distinct absent new_of answered is_timebase inside new_track code_of is_target
+  unfolding ok_play ok_tables ok_sixteen counted all lone distinct absent new_of answered is_timebase inside new_track code_of is_target
   wavy-well = whole (wavy v) (unfold ok_play new_of answered is_timebase inside new_track in track-play quick quick-well) (track-params quick quick-well) (track-layers quick quick-well) (track-options quick quick-well) (rw e) refl
 
   wave-allowed : refusal quick places no_cycles (pos 7) (is_short v) (ok_wave (wave v)) true ≡ 0

@@ -20,7 +20,7 @@ use Rattle.counted.specs.Numbers.{ok_numbers}
 use Rattle.counted.proofs.Counted.{numbers-count}
 use Rattle.reserved.proofs.Cycles.{or_left}
 use Rattle.tables.specs.declared.OnNoteValues.{OnNoteValues}
-use Rattle.tables.specs.Sixteen.{well}
+use Rattle.tables.specs.Sixteen.{ok_sixteen}
 use Rattle.tables.specs.Tables.{NoteTable}
 use Rattle.tables.specs.Reservations.{ok_values}
 use Rattle.tables.specs.Tables.{ok_notes}
@@ -85,5 +85,5 @@ kept-values e h q =
 
 -- each list of a table that passes its test passes its own
 pub listed : (t : NoteTable) → ok_notes t ≡ true → all ok_values (take t.count t.items) ≡ true
-unfolding well counted
+unfolding ok_sixteen counted
 listed t e = right (leb t.count places) (all ok_values (take t.count t.items)) e

@@ -22,7 +22,7 @@ use Rattle.values.specs.declared.WriteOption.{WriteOption}
 use Rattle.cycles.specs.declared.Cycle.{Cycle}
 use Rattle.cycles.specs.Due.{key}
 use Rattle.tables.specs.declared.OnNoteValues.{OnNoteValues}
-use Rattle.tables.specs.Sixteen.{well}
+use Rattle.tables.specs.Sixteen.{ok_sixteen}
 use Rattle.tables.specs.Tables.{NoteTable}
 use Rattle.tables.specs.Tables.{CycleTable}
 use Rattle.tables.specs.Reservations.{ok_values}
@@ -106,7 +106,7 @@ module _ (a : Track) (start : ℤ) (b : Budget) (e : ok_track a ≡ true) where
   at = record { start = start; channel = a.channel }
 
   notes-ok : ok_notes n ≡ true
-  unfolding well run_of at
+  unfolding ok_sixteen run_of at
   notes-ok =
       counted-put no_note a.notes.count a.notes.items ok_values places (stored-notes a e) (kept r)
       (omega (arith, kept-few r, run_long a.options at b used, length-take a.notes.count a.notes.items, notes-few a e))

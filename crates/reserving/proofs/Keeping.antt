@@ -28,7 +28,7 @@ use Rattle.cycles.specs.Rules.{no_cycle, ok_cycle}
 use Rattle.tables.specs.declared.OnNoteValues.{OnNoteValues}
 use Rattle.tables.specs.declared.OnNoteWave.{OnNoteWave}
 use Rattle.tables.specs.declared.OnNoteSine.{OnNoteSine}
-use Rattle.tables.specs.Sixteen.{well}
+use Rattle.tables.specs.Sixteen.{ok_sixteen}
 use Rattle.tables.specs.Tables.{NoteTable}
 use Rattle.tables.specs.Tables.{WaveTable}
 use Rattle.tables.specs.Tables.{SineTable}
@@ -72,15 +72,15 @@ module _ (a : Track) (e : ok_track a ≡ true) (n : NoteTable) (w : WaveTable) (
 -- ---- a track's tables once a target is out
 module _ (a : Track) (k : ℕ) (t : ok_track a ≡ true) where
   pub notes-ok : ok_notes (notes_without a.notes k) ≡ true
-  unfolding well
+  unfolding ok_sixteen
   notes-ok = counted-without no_note a.notes.count a.notes.items ok_values places (stored-notes a t) (note_at k)
 
   pub waves-ok : ok_waves (waves_without a.waves k) ≡ true
-  unfolding well
+  unfolding ok_sixteen
   waves-ok = counted-without no_wave a.waves.count a.waves.items ok_wave places (stored-waves a t) (wave_at k)
 
   pub sines-ok : ok_sines (sines_without a.sines k) ≡ true
-  unfolding well
+  unfolding ok_sixteen
   sines-ok = counted-without no_sine a.sines.count a.sines.items ok_sine places (stored-sines a t) (sine_at k)
 
 -- ---- the same with the cycle table, and one is put in again
@@ -110,7 +110,7 @@ module _ (a : Track) (cs : List Cycle) (k : ℕ) (e : ok_lent a cs ≡ true) whe
   ss = sines-ok a k t
 
   ys : ok_cycles y ≡ true
-  unfolding well
+  unfolding ok_sixteen
   ys = counted-without no_cycle a.cycles cs ok_cycle places (lent-cycles a cs e) (cycle_at k)
 
   alone : lone a.notes a.waves a.sines (cycles_of a cs) ≡ true
@@ -122,28 +122,28 @@ module _ (a : Track) (cs : List Cycle) (k : ℕ) (e : ok_lent a cs ≡ true) whe
   cleared-kept = with-tables a t n w s ns ws ss y ys (lone-taken a.notes a.waves a.sines (cycles_of a cs) k alone)
 
   pub note-kept : (x : OnNoteValues) → ok_values x ≡ true → key x.target ≡ k → n.count < places → Passes (with_note x (cleared a cs k))
-  unfolding cleared well
+  unfolding cleared ok_sixteen
   note-kept x o q h =
       with-tables a t (notes_with n x) w s
       (counted-with no_note n.count n.items ok_values places ns x h (roomy no_note a.notes.count (notes_left a.notes k) a.notes.items) o)
       ws ss y ys (lone-note a.notes a.waves a.sines (cycles_of a cs) k alone x q)
 
   pub wave-kept : (x : OnNoteWave) → ok_wave x ≡ true → key x.target ≡ k → w.count < places → Passes (with_wave x (cleared a cs k))
-  unfolding cleared well
+  unfolding cleared ok_sixteen
   wave-kept x o q h =
       with-tables a t n (waves_with w x) s ns
       (counted-with no_wave w.count w.items ok_wave places ws x h (roomy no_wave a.waves.count (waves_left a.waves k) a.waves.items) o)
       ss y ys (lone-wave a.notes a.waves a.sines (cycles_of a cs) k alone x q)
 
   pub sine-kept : (x : OnNoteSine) → ok_sine x ≡ true → key x.target ≡ k → s.count < places → Passes (with_sine x (cleared a cs k))
-  unfolding cleared well
+  unfolding cleared ok_sixteen
   sine-kept x o q h =
       with-tables a t n w (sines_with s x) ns ws
       (counted-with no_sine s.count s.items ok_sine places ss x h (roomy no_sine a.sines.count (sines_left a.sines k) a.sines.items) o)
       y ys (lone-sine a.notes a.waves a.sines (cycles_of a cs) k alone x q)
 
   pub cycle-kept : (x : Cycle) → ok_cycle x ≡ true → key x.target ≡ k → y.count < places → Passes (with_cycle x (cleared a cs k))
-  unfolding cleared well
+  unfolding cleared ok_sixteen
   cycle-kept x o q h =
       with-tables a t n w s ns ws ss (cycles_with y x)
       (counted-with no_cycle y.count y.items ok_cycle places ys x h (roomy no_cycle a.cycles (cycles_left (cycles_of a cs) k) cs) o)

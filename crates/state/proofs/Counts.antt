@@ -3,7 +3,7 @@ use mathlib.Core.Path.{◌≡◌}
 use mathlib.Core.Bool.{true}
 use Prim.Native.Nat.{◌≤◌}
 use Rattle.numbers.specs.Limits.{places}
-use Rattle.tables.specs.Sixteen.{well}
+use Rattle.tables.specs.Sixteen.{ok_sixteen}
 use Rattle.tables.specs.Tables.{NoteTable}
 use Rattle.tables.specs.Tables.{WaveTable}
 use Rattle.tables.specs.Tables.{SineTable}
@@ -14,17 +14,17 @@ use Rattle.tables.specs.Tables.{ok_notes, ok_waves, ok_sines, ok_cycles}
 use Rattle.tables.proofs.Testing.{counted-few}
 
 pub few-notes : (t : NoteTable) → ok_notes t ≡ true → t.count ≤ places
-unfolding well
+unfolding ok_sixteen
 few-notes t e = counted-few t.count places ok_values t.items e
 
 pub few-waves : (t : WaveTable) → ok_waves t ≡ true → t.count ≤ places
-unfolding well
+unfolding ok_sixteen
 few-waves t e = counted-few t.count places ok_wave t.items e
 
 pub few-sines : (t : SineTable) → ok_sines t ≡ true → t.count ≤ places
-unfolding well
+unfolding ok_sixteen
 few-sines t e = counted-few t.count places ok_sine t.items e
 
 pub few-cycles : (t : CycleTable) → ok_cycles t ≡ true → t.count ≤ places
-unfolding well
+unfolding ok_sixteen
 few-cycles t e = counted-few t.count places ok_cycle t.items e

@@ -12,7 +12,7 @@ use Rattle.laws.proofs.Ranges.{left, right}
 use Rattle.numbers.specs.Limits.{places}
 use Rattle.cycles.specs.declared.Cycle.{Cycle}
 use Rattle.cycles.specs.Rules.{ok_cycle}
-use Rattle.tables.specs.Sixteen.{well}
+use Rattle.tables.specs.Sixteen.{ok_sixteen}
 use Rattle.tables.specs.Tables.{ok_cycles, lone}
 use Rattle.state.specs.declared.Track.{Track}
 use Rattle.state.specs.Track.{cycles_of}
@@ -74,7 +74,7 @@ module _ (a : Track) (cs : List Cycle) where
     lent-lone = right (ok_track a && ok_cycles (cycles_of a cs)) alone e
 
     pub lent-counted : counted a.cycles places ok_cycle cs ≡ true
-    unfolding well
+    unfolding ok_sixteen
     lent-counted = lent-cycles
 
     pub notes-few : a.notes.count ≤ places

@@ -12,7 +12,7 @@ use Rattle.params.specs.Param.{fresh, ok_limits, ok_param}
 use Rattle.params.proofs.Limits.{range_inside}
 use Rattle.layers.specs.Layers.{one_layer, ok_layer, ok_layers}
 use Rattle.values.specs.Options.{ok_option}
-use Rattle.tables.specs.Sixteen.{well}
+use Rattle.tables.specs.Sixteen.{ok_sixteen}
 use Rattle.tables.specs.Tables.{ok_notes, ok_waves, ok_sines, lone}
 use Rattle.state.specs.Track.{no_notes, no_waves, no_sines, new_track}
 use Rattle.state.specs.Tests.{ok_play, ok_params, ok_options, ok_tables, ok_track}
@@ -45,7 +45,7 @@ unfolding ok_options new_track all ok_option is_length is_random sized inside
 options-ok = refl
 
 tables-ok : ok_tables no_notes no_waves no_sines ≡ true
-unfolding ok_tables well counted all lone distinct
+unfolding ok_tables ok_sixteen counted all lone distinct
 tables-ok = refl
 
 -- 01, "Numbers a caller may hand in": "timebase 1 to 32,767, channel clamped to 0..15 on creation"

@@ -22,7 +22,7 @@ use Rattle.cycles.specs.Rules.{no_cycle, ok_cycle, ok_table}
 use Rattle.tables.specs.declared.OnNoteValues.{OnNoteValues}
 use Rattle.tables.specs.declared.OnNoteWave.{OnNoteWave}
 use Rattle.tables.specs.declared.OnNoteSine.{OnNoteSine}
-use Rattle.tables.specs.Sixteen.{keyed, well}
+use Rattle.tables.specs.Sixteen.{keyed, ok_sixteen}
 use Rattle.tables.specs.Tables.{NoteTable, WaveTable, SineTable, CycleTable, no_note, no_wave, no_sine, note_keys, wave_keys, sine_keys, cycle_keys, notes_left, waves_left, sines_left, cycles_left, notes_without, waves_without, sines_without, cycles_without, notes_with, waves_with, sines_with, cycles_with, ok_cycles, lone}
 
 -- ---- the four tables
@@ -30,7 +30,7 @@ use Rattle.tables.specs.Tables.{NoteTable, WaveTable, SineTable, CycleTable, no_
 -- what the cycle theorem asks of a table follows from the tests of a track's tables
 pub cycle-rules : (notes : NoteTable) (waves : WaveTable) (sines : SineTable) (cycles : CycleTable) → lone notes waves sines cycles ≡ true → ok_cycles cycles ≡ true
     → ok_table (take cycles.count cycles.items) ≡ true
-unfolding lone well ok_table counted
+unfolding lone ok_sixteen ok_table counted
 cycle-rules notes waves sines cycles e o =
     let used = take cycles.count cycles.items in
     rw (right (leb cycles.count places) (all ok_cycle used) o) (distinct-last (note_keys notes ++ wave_keys waves ++ sine_keys sines) (cycle_keys cycles) e)

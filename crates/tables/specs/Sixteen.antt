@@ -25,8 +25,8 @@ module _ {A : Type 0} where
   put_in z t e = record { count = t.count + 1; items = put_first z t.count (used t ++ (e ∷ [])) t.items }
 
   -- at most sixteen, each of which may be stored
-  unfoldable pub well : (A → Bool) → Table A → Bool
-  well p t = counted t.count places p t.items
+  unfoldable pub ok_sixteen : (A → Bool) → Table A → Bool
+  ok_sixteen p t = counted t.count places p t.items
 
   abbrev pub keys_of : (A → ℕ) → Table A → List ℕ
   keys_of f t = map f (used t)

@@ -14,7 +14,7 @@ use Rattle.tables.specs.declared.SineAnswer.{SineAnswer}
 use Rattle.tables.specs.declared.Table.{Table}
 use Rattle.tables.specs.declared.Keys.{Keys}
 use Rattle.tables.specs.Reservations.{ok_values, ok_wave, ok_sine}
-use Rattle.tables.specs.Sixteen.{keyed, left, taken_out, put_in, well, keys_of}
+use Rattle.tables.specs.Sixteen.{keyed, left, taken_out, put_in, ok_sixteen, keys_of}
 
 abbrev pub NoteTable : Type 0
 NoteTable = Table OnNoteValues
@@ -65,7 +65,7 @@ abbrev pub notes_with : NoteTable → OnNoteValues → NoteTable
 notes_with = put_in no_note
 
 abbrev pub ok_notes : NoteTable → Bool
-ok_notes = well ok_values
+ok_notes = ok_sixteen ok_values
 
 abbrev pub note_keys : NoteTable → List ℕ
 note_keys = keys_of note_key
@@ -84,7 +84,7 @@ abbrev pub waves_with : WaveTable → OnNoteWave → WaveTable
 waves_with = put_in no_wave
 
 abbrev pub ok_waves : WaveTable → Bool
-ok_waves = well ok_wave
+ok_waves = ok_sixteen ok_wave
 
 abbrev pub wave_keys : WaveTable → List ℕ
 wave_keys = keys_of wave_key
@@ -103,7 +103,7 @@ abbrev pub sines_with : SineTable → OnNoteSine → SineTable
 sines_with = put_in no_sine
 
 abbrev pub ok_sines : SineTable → Bool
-ok_sines = well ok_sine
+ok_sines = ok_sixteen ok_sine
 
 abbrev pub sine_keys : SineTable → List ℕ
 sine_keys = keys_of sine_key
@@ -132,7 +132,7 @@ abbrev pub cycles_with : CycleTable → Cycle → CycleTable
 cycles_with = put_in no_cycle
 
 abbrev pub ok_cycles : CycleTable → Bool
-ok_cycles = well ok_cycle
+ok_cycles = ok_sixteen ok_cycle
 
 abbrev pub cycle_keys : CycleTable → List ℕ
 cycle_keys = keys_of cycle_key

@@ -11,7 +11,7 @@ ghost use Rattle.counted.specs.Numbers.{shown};
 ghost use Rattle.counted.specs.Curves.{triples};
 ghost use Rattle.cycles.specs.Rules.{no_cycle, ok_cycle};
 ghost use Rattle.tables.specs.Reservations.{forward, ok_values, ok_wave, ok_sine};
-ghost use Rattle.tables.specs.Sixteen.{taken_out, put_in, well, keys_of};
+ghost use Rattle.tables.specs.Sixteen.{taken_out, put_in, ok_sixteen, keys_of};
 ghost use Rattle.tables.specs.Tables.{no_note, no_wave, no_sine, note_key, wave_key, sine_key, cycle_key, new_sine, keys_shown, key_limit, lone};
 ghost use Rattle.tables.specs.Stored.{ok_stored};
 
@@ -281,7 +281,7 @@ pub type CycleTable = Table<Cycle>;
 impl<T: Reservation> Table<T> {
     // Whether at most sixteen count, each of which may be stored.
     pub fn is_ok(&self) -> bool
-        ensures value { result ≡ well T.ok self.now }
+        ensures value { result ≡ ok_sixteen T.ok self.now }
         ensures few { result ≡ true → self.now.count ≤ places }
     {
         if PLACES < self.count {

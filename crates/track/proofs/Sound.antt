@@ -56,7 +56,7 @@ use Rattle.cycles.specs.Rules.{no_cycle}
 use Rattle.tables.specs.declared.OnNoteSine.{OnNoteSine}
 use Rattle.tables.specs.declared.SineAnswer.{SineAnswer}
 use Rattle.tables.specs.Reservations.{ok_sine}
-use Rattle.tables.specs.Sixteen.{well}
+use Rattle.tables.specs.Sixteen.{ok_sixteen}
 use Rattle.tables.specs.Tables.{NoteTable}
 use Rattle.tables.specs.Tables.{WaveTable}
 use Rattle.tables.specs.Tables.{SineTable}
@@ -521,7 +521,7 @@ pub record Started (a : Track) : Type 0 where
 
 module _ (b c : ℤ) (e : is_timebase b ≡ true) where
   new-started : Started (new_track b (on_channel c))
-  unfolding new_track well counted all lone distinct
+  unfolding new_track ok_sixteen counted all lone distinct
   new-started =
       let t = new-passes b c e in
       record { alone = t; lent = λ cs. lent-whole (new_track b (on_channel c)) cs t refl refl; filled = refl }
@@ -586,7 +586,7 @@ pub record OfMakers : Type 0 where
   pub write-option-new : ok_option new_option ≡ true
 
 pub of-makers : OfMakers
-unfolding well ok_param ok_limits ok_layers ok_layer ok_reserve ok_values ok_numbers ok_option counted all is_stored_time is_length is_random is_number sized inside
+unfolding ok_sixteen ok_param ok_limits ok_layers ok_layer ok_reserve ok_values ok_numbers ok_option counted all is_stored_time is_length is_random is_number sized inside
 of-makers =
     record {
       track-new = new-sound;

@@ -21,7 +21,7 @@ use Rattle.writing.proofs.Every.{Each, each_append}
 use Rattle.tables.specs.declared.OnNoteWave.{OnNoteWave}
 use Rattle.tables.specs.declared.OnNoteSine.{OnNoteSine}
 use Rattle.tables.specs.Reservations.{ok_wave, ok_sine}
-use Rattle.tables.specs.Sixteen.{well}
+use Rattle.tables.specs.Sixteen.{ok_sixteen}
 use Rattle.tables.specs.Tables.{ok_waves, ok_sines, note_keys, wave_keys, sine_keys, cycle_keys, lone}
 use Rattle.tables.proofs.Sines.{sine-aimed}
 use Rattle.state.specs.declared.Track.{Track}
@@ -83,11 +83,11 @@ module _ (a : Track) (n : ℕ) where
 
   module _ (h : ok_track a ≡ true) where
     pub all-waves : all ok_wave (take a.waves.count a.waves.items) ≡ true
-    unfolding well counted
+    unfolding ok_sixteen counted
     all-waves = right (leb a.waves.count places) (all ok_wave (take a.waves.count a.waves.items)) (stored-waves a h)
 
     pub all-sines : all ok_sine (take a.sines.count a.sines.items) ≡ true
-    unfolding well counted
+    unfolding ok_sixteen counted
     all-sines = right (leb a.sines.count places) (all ok_sine (take a.sines.count a.sines.items)) (stored-sines a h)
 
     both-once : distinct (wave_keys a.waves ++ sine_keys a.sines) ≡ true

@@ -20,7 +20,7 @@ use Rattle.numbers.specs.Limits.{places}
 use Rattle.tables.specs.declared.OnNoteWave.{OnNoteWave}
 use Rattle.tables.specs.declared.OnNoteSine.{OnNoteSine}
 use Rattle.tables.specs.Reservations.{ok_wave, ok_sine}
-use Rattle.tables.specs.Sixteen.{well}
+use Rattle.tables.specs.Sixteen.{ok_sixteen}
 use Rattle.tables.specs.Tables.{no_wave, no_sine, ok_waves, ok_sines}
 use Rattle.state.specs.declared.Track.{Track}
 use Rattle.state.proofs.Stored.{stored-waves, stored-sines, waves-few, sines-few}
@@ -39,13 +39,13 @@ module _ (a : Track) (h : Held a) where
   sines-fit = let l = h.sines in let f = sines-few a h.passed in omega arith
 
   pub wave-stored : (i : ℕ) (d : OnNoteWave) → i < a.waves.count → ok_wave (get_or a.waves.items i d) ≡ true
-  unfolding well counted
+  unfolding ok_sixteen counted
   wave-stored i d k =
       all-below ok_wave a.waves.items a.waves.count i d
       (right (leb a.waves.count places) (all ok_wave (take a.waves.count a.waves.items)) (stored-waves a h.passed)) k waves-fit
 
   pub sine-stored : (i : ℕ) (d : OnNoteSine) → i < a.sines.count → ok_sine (get_or a.sines.items i d) ≡ true
-  unfolding well counted
+  unfolding ok_sixteen counted
   sine-stored i d k =
       all-below ok_sine a.sines.items a.sines.count i d
       (right (leb a.sines.count places) (all ok_sine (take a.sines.count a.sines.items)) (stored-sines a h.passed)) k sines-fit

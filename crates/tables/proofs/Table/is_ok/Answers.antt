@@ -2,12 +2,12 @@
 use Rattle.std.proofs.Common.{rules, ◌≡◌, sym, ap, ◌∙◌, true, false, get_or}
 use Rattle.laws.proofs.Tests.{counted-over, passed, failed, ended}
 use Rattle.numbers.specs.Limits.{places}
-use Rattle.tables.specs.Sixteen.{used, well}
+use Rattle.tables.specs.Sixteen.{used, ok_sixteen}
 use Rattle.tables.proofs.Testing.{well-is}
 use Rattle.tables.proofs.Table.is_ok.Goals as goal
 
 pub returns-then-self-gt-PLACES-clause-value : goal.returns-then-self-gt-PLACES-clause-value
-unfolding well
+unfolding ok_sixteen
 returns-then-self-gt-PLACES-clause-value g c = counted-over g.T.Reservation.ok c.args.self.now.count places c.args.self.now.items c.if-self-gt-PLACES.true
 
 pub returns-then-not-is_ok-clause-value : goal.returns-then-not-is_ok-clause-value
