@@ -1,15 +1,14 @@
 -- Laws of counted lists, over the list's limit.
 --     shown-numbers     the numbers that count of a list laid into one are the list
 --     numbers-count, numbers-at   what the test of a list says of it
---     listed-long, listed-fits, listed-list   what the code of a list that was laid says
 --     laid-numbers, laid-curve   the tests of a list laid into a counted one are those of the list
 use mathlib.Core.Path.{◌≡◌, refl, sym, ap, ◌∙◌}
-use mathlib.Core.Bool.{Bool, true, false, cond}
+use mathlib.Core.Bool.{true}
 use mathlib.Core.List.{List}
 use Prim.Native.Nat.{ℕ, ◌+◌, ◌*◌, ◌/◌, ◌≤◌, ◌<◌}
 use native.Mathlib.Omega.{arith}
 use borrow.Author.Tests.{leb-true, le-leb}
-use lib.Dec.{leb, ltb}
+use lib.Dec.{leb}
 use lib.IntN.{ℤ, pos}
 use lib.ListN.{length, get_or, drop}
 use lib.Seq.{take_at, get_or-take}
@@ -21,8 +20,7 @@ use Rattle.numbers.specs.Limits.{list_limit}
 use Rattle.numbers.specs.Ranges.{is_number, is_length}
 use Rattle.numbers.proofs.Tested.{zero_number}
 use Rattle.counted.specs.declared.Numbers.{Numbers}
-use Rattle.counted.specs.declared.Listed.{Listed}
-use Rattle.counted.specs.Numbers.{zeros, none, numbers, numbers_of, shown, ok_numbers}
+use Rattle.counted.specs.Numbers.{zeros, numbers, shown, ok_numbers}
 use Rattle.counted.specs.Curves.{triples, has_length, no_triple, is_curve, ok_curve}
 use Rattle.counted.proofs.Triples.{length-triples, third}
 
@@ -68,25 +66,3 @@ module _ (v : List ℤ) (h : length v ≤ list_limit) where
   pub laid-curve : ok_curve (numbers v) ≡ is_curve v
   unfolding ok_curve is_curve
   laid-curve = rw (laid-numbers, shown-numbers v)
-
--- what the code of a list that was laid says
-abbrev chosen : List ℤ → Bool → Listed
-chosen v b = cond b (record { code = 3; list = none }) (record { code = 0; list = numbers v })
-
-choice-long : (v : List ℤ) (b : Bool) → ((chosen v b).code ≡ 0 → ⊥) → b ≡ true
-choice-long v true h = refl
-choice-long v false h = absurd (h refl)
-
-choice-fits : (v : List ℤ) (b : Bool) → (chosen v b).code ≡ 0 → b ≡ false
-choice-fits v true h = absurd (omega arith)
-choice-fits v false h = refl
-
-module _ (v : List ℤ) where
-  pub listed-long : ((numbers_of v).code ≡ 0 → ⊥) → ltb list_limit (length v) ≡ true
-  listed-long h = choice-long v (ltb list_limit (length v)) h
-
-  pub listed-fits : (numbers_of v).code ≡ 0 → ltb list_limit (length v) ≡ false
-  listed-fits h = choice-fits v (ltb list_limit (length v)) h
-
-  pub listed-list : ltb list_limit (length v) ≡ false → (numbers_of v).list ≡ numbers v
-  listed-list e = rw e

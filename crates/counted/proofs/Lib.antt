@@ -1,3 +1,4 @@
 pub mod Sizes
 pub mod Triples
 pub mod Counted
+pub mod Chains

@@ -8,11 +8,12 @@ ghost use Rattle.numbers.specs.Limits.{list_limit};
 ghost use Rattle.counted.specs.Numbers.{none, numbers_of, shown, ok_numbers, got_at};
 ghost use Rattle.counted.specs.Curves.{triples, has_length, ok_curve};
 
-use numbers::{is_length, is_number};
+use numbers::{Refusal, ask, is_length, is_number};
 
 // How many numbers a list may have.
 pub const LIST_LIMIT: usize = 192;
 
+// An array with its count and no slice or Vec: C lends it within a track, and nothing here takes memory.
 #[repr(C)]
 #[derive(Clone, Copy)]
 pub struct Numbers {
@@ -20,14 +21,8 @@ pub struct Numbers {
     pub items: [i32; LIST_LIMIT],
 }
 
-// A list made of a lent one, or the number 3 and the empty list.
-#[derive(Clone, Copy)]
-pub struct Listed {
-    pub code: u32,
-    pub list: Numbers,
-}
-
 // The empty list.
+#[tactic(auto, unfolding(crate::specs::Numbers::zeros))]
 pub fn empty() -> Numbers
     ensures { result ≡ none }
 {
@@ -38,47 +33,21 @@ pub fn empty() -> Numbers
 }
 
 // The numbers of `args`, with zeros behind them. Refuses 3.
-pub fn numbers_of(args: &[i32]) -> Listed
+pub fn numbers_of(args: &[i32]) -> Result<Numbers, Refusal>
     ensures { result ≡ numbers_of args.now }
 {
-    let n = args.len();
-    let mut list = empty();
-    if LIST_LIMIT < n {
-        return Listed {
-            code: 3,
-            list: list,
-        };
-    }
-    let mut i: usize = 0;
-    while i < n {
-        let x = args[i];
-        list.items[i] = x;
-        i += 1;
-    }
-    list.count = n;
-    Listed {
-        code: 0,
-        list: list,
-    }
+    let count = args.len();
+    ask(count <= LIST_LIMIT, Refusal::TooMany)?;
+    let mut items = [0; LIST_LIMIT];
+    items[..count].copy_from_slice(args);
+    Ok(Numbers { count, items })
 }
 
 // Whether `list` has at most as many numbers as a list may have, each in range.
 pub fn numbers_ok(list: Numbers) -> bool
     ensures { result ≡ ok_numbers list }
 {
-    let n = list.count;
-    if LIST_LIMIT < n {
-        return false;
-    }
-    let mut i: usize = 0;
-    while i < n {
-        let x = list.items[i];
-        if !is_number(x) {
-            return false;
-        }
-        i += 1;
-    }
-    true
+    list.count <= LIST_LIMIT && list.items[..list.count].iter().all(|x| is_number(*x))
 }
 
 // Whether the third number of each whole triple is a length.
@@ -86,42 +55,23 @@ fn thirds_ok(list: Numbers) -> bool
     requires { list.count ≤ list_limit }
     ensures { result ≡ all has_length (triples (shown list)) }
 {
-    let n = list.count / 3;
-    let mut i: usize = 0;
-    while i < n {
-        let x = list.items[i * 3 + 2];
-        if !is_length(x) {
-            return false;
-        }
-        i += 1;
-    }
-    true
+    list.items[..list.count]
+        .chunks_exact(3)
+        .all(|triple| is_length(triple[2]))
 }
 
 // Whether `list` is one of a curve or a wave: numbers in range, and a length in each third place.
+#[tactic(auto, unfolding(crate::specs::Curves::ok_curve))]
 pub fn curve_ok(list: Numbers) -> bool
     ensures { result ≡ ok_curve list }
 {
-    if !numbers_ok(list) {
-        return false;
-    }
-    thirds_ok(list)
+    numbers_ok(list) && thirds_ok(list)
 }
 
 // The number at a place of a list, if so many count.
-#[derive(Clone, Copy)]
-pub enum Got {
-    Value(i32),
-    Nothing,
-}
-
-pub fn number_at(list: Numbers, i: usize) -> Got
+pub fn number_at(list: Numbers, i: usize) -> Option<i32>
     requires { list.count ≤ list_limit }
     ensures { result ≡ got_at list i }
 {
-    if list.count <= i {
-        return Got::Nothing;
-    }
-    let x = list.items[i];
-    Got::Value(x)
+    list.items[..list.count].get(i).copied()
 }

@@ -5,4 +5,3 @@ pub mod Own
 pub mod Kept
 pub mod Grown
 pub mod Set
-pub mod Laid

@@ -1,11 +1,14 @@
 -- 01, item 5 and "Numbers that come back": what each call on the layers answers and leaves. The tests give the number, and by it
 -- the answer is chosen; refused, the layers are those that were given.
-use Rattle.std.specs.Prelude.{Bool, cond, ◌&&◌, List, ◌++◌, map, ℕ, eqb, leb, ℤ, pos, ◌+ℤ◌, drop, get_or, set}
+use Rattle.std.specs.Prelude.{Bool, cond, ◌&&◌, List, ◌++◌, map, ℕ, eqb, leb, ℤ, pos, ◌+ℤ◌, Result, Ok, Err, drop, get_or, set}
 use Rattle.laws.specs.Lists.{all}
 use Rattle.numbers.specs.Limits.{layer_limit}
 use Rattle.numbers.specs.Ranges.{is_time, is_number, is_length, is_random}
+use Rattle.numbers.specs.Refusals.{number_of}
+use Rattle.numbers.specs.declared.refusals.Refusal.{Refusal}
 use Rattle.counted.specs.Numbers.{numbers}
 use Rattle.counted.specs.Curves.{is_curve}
+use Rattle.reserved.specs.declared.Reserve.{Reserve}
 use Rattle.reserved.specs.Reserve.{curve_from, notes_from}
 use Rattle.reserved.specs.Setting.{list_demand, length_of, rest_of, cycle_for}
 use Rattle.layers.specs.declared.Layer.{Layer}
@@ -20,6 +23,11 @@ layer_demand i ok = cond ok (cond (leb layer_limit i) 5 0) 4
 
 unfoldable pub answered : ℕ → Layers → ℕ → (Layer → Layer) → LayersAnswer
 answered n l i f = cond (eqb n 0) (record { code = 0; layers = changed l i f }) (record { code = n; layers = l })
+
+-- by whether the layers are in range, and what is to be reserved or why it is not
+abbrev pub reserving : Bool → Layers → ℕ → Result Reserve Refusal → LayersAnswer
+reserving ok l i (Ok r) = answered (layer_demand i ok) l i (reserve_set r)
+reserving ok l i (Err e) = record { code = number_of e; layers = l }
 
 abbrev pub set_v_sub : Layers → ℕ → ℤ → LayersAnswer
 set_v_sub l i v = answered (layer_demand i (ok_layers l && is_number v)) l i (value_set v)

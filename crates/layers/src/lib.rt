@@ -3,18 +3,17 @@
 // handed, the layers too; where it refuses, it hands back the layers that it was given.
 #![tactic(auto)]
 
-ghost use Rattle.std.specs.Prelude.{◌≡◌, true, ◌+◌, ◌*◌, ◌<◌, ◌≤◌, ◌^◌, get_or};
+ghost use Rattle.std.specs.Prelude.{◌≡◌, true, false, ◌&&◌, ◌+◌, ◌*◌, ◌<◌, ◌≤◌, ◌^◌, get_or};
+ghost use Rattle.std.specs.Fn.{FnOnceReturnsAtMut};
 ghost use Rattle.std.specs.Int.Signed.{mag};
 ghost use Rattle.numbers.specs.Limits.{layer_limit};
 ghost use Rattle.numbers.specs.Ranges.{is_time};
-ghost use Rattle.layers.specs.Layers.{fresh_layer, one_layer, ok_layer, ok_layers, grown, changed, value_set, random_set, reserve_set, heard_of};
-ghost use Rattle.layers.specs.Calls.{further, set_v_sub, set_v_sub_random, set_v_sub_on_time, set_v_sub_on_cycle, set_v_sub_on_note, summed, apply_v_sub};
+ghost use Rattle.layers.specs.Layers.{fresh_layer, one_layer, ok_layer, ok_layers, grown, changed, heard_of};
+ghost use Rattle.layers.specs.Calls.{further, reserving, set_v_sub, set_v_sub_random, set_v_sub_on_time, set_v_sub_on_cycle, set_v_sub_on_note, summed, apply_v_sub};
 
-use counted::{curve_ok, numbers_of, numbers_ok};
-use numbers::{is_length, is_number, is_random, is_time};
+use numbers::{Refusal, is_number, is_random, is_time};
 use reserved::{
-    ON_NOTE, Reserve, curve_reserve, cycle_args, cycle_reserve, delayed, idle_reserve,
-    note_reserve, reserve_ok,
+    ON_NOTE, Reserve, Taken, curve_asked, cycle_asked, idle_reserve, notes_asked, reserve_ok,
 };
 
 // How many layers a track may have.
@@ -28,6 +27,7 @@ pub struct Layer {
     pub reserve: Reserve,
 }
 
+// An array with its count and no Vec: C lends it within a track, and nothing here takes memory.
 #[repr(C)]
 #[derive(Clone, Copy)]
 pub struct Layers {
@@ -62,11 +62,10 @@ pub struct Heard {
 fn fresh_layer() -> Layer
     ensures { result ≡ fresh_layer }
 {
-    let reserve = idle_reserve();
     Layer {
         value: 0,
         random: 0,
-        reserve: reserve,
+        reserve: idle_reserve(),
     }
 }
 
@@ -75,33 +74,17 @@ fn fresh_layer() -> Layer
 pub fn layer_ok(layer: Layer) -> bool
     ensures { result ≡ ok_layer layer }
 {
-    let a = is_number(layer.value);
-    let b = is_random(layer.random);
-    let c = reserve_ok(layer.reserve);
-    a & b & c
+    is_number(layer.value) & is_random(layer.random) & reserve_ok(layer.reserve)
 }
 
 // Whether there are 1 to 16 layers, every number of which is in its range.
-#[tactic(auto, unfolding(crate::specs::Layers::ok_layers))]
 pub fn layers_ok(layers: Layers) -> bool
     ensures { result ≡ ok_layers layers }
 {
-    let n = layers.count;
-    if n == 0 {
-        return false;
-    }
-    if LAYER_LIMIT < n {
-        return false;
-    }
-    let mut i: usize = 0;
-    while i < n {
-        let layer = layers.items[i];
-        if !layer_ok(layer) {
-            return false;
-        }
-        i += 1;
-    }
-    true
+    (1..=LAYER_LIMIT).contains(&layers.count)
+        && layers.items[..layers.count]
+            .iter()
+            .all(|layer| layer_ok(*layer))
 }
 
 // The layers with empty ones up to `index`.
@@ -110,58 +93,12 @@ fn grow(mut layers: Layers, index: usize) -> Layers
     requires { index < layer_limit }
     ensures { result ≡ grown layers index }
 {
-    let n = layers.count;
-    if index < n {
-        return layers;
+    if layers.count <= index {
+        let first = layers.count;
+        layers.items[first..index + 1].fill(fresh_layer());
+        layers.count = index + 1;
     }
-    let layer = fresh_layer();
-    let mut i = n;
-    while i <= index {
-        layers.items[i] = layer;
-        i += 1;
-    }
-    layers.count = i;
     layers
-}
-
-// The layer at `index` with a value and nothing reserved.
-#[tactic(auto, unfolding(crate::specs::Layers::changed))]
-fn put_value(layers: Layers, index: usize, value: i32) -> Layers
-    requires { index < layer_limit }
-    ensures { result ≡ changed layers index (value_set value) }
-{
-    let mut left = grow(layers, index);
-    let mut layer = left.items[index];
-    layer.value = value;
-    layer.reserve = idle_reserve();
-    left.items[index] = layer;
-    left
-}
-
-// The layer at `index` with a random width.
-#[tactic(auto, unfolding(crate::specs::Layers::changed))]
-fn put_random(layers: Layers, index: usize, random: i32) -> Layers
-    requires { index < layer_limit }
-    ensures { result ≡ changed layers index (random_set random) }
-{
-    let mut left = grow(layers, index);
-    let mut layer = left.items[index];
-    layer.random = random;
-    left.items[index] = layer;
-    left
-}
-
-// The layer at `index` with a reservation.
-#[tactic(auto, unfolding(crate::specs::Layers::changed))]
-fn put_reserve(layers: Layers, index: usize, reserve: Reserve) -> Layers
-    requires { index < layer_limit }
-    ensures { result ≡ changed layers index (reserve_set reserve) }
-{
-    let mut left = grow(layers, index);
-    let mut layer = left.items[index];
-    layer.reserve = reserve;
-    left.items[index] = layer;
-    left
 }
 
 // What a layer adds to a note at `timepos`, and what it then is.
@@ -171,30 +108,22 @@ fn layer_heard(layer: Layer, timepos: i64) -> Heard
     requires timepos_value { is_time timepos ≡ true }
     ensures { result ≡ heard_of timepos layer }
 {
-    let reserve = layer.reserve;
-    if reserve.kind == ON_NOTE {
-        let taken = reserve.next(layer.value);
-        let left = taken.reserve;
-        let after = Layer {
-            value: taken.value,
-            random: layer.random,
-            reserve: left,
-        };
-        return Heard {
-            value: taken.value,
-            layer: after,
-        };
-    }
-    let taken = reserve.at_time(timepos, layer.value);
-    let left = taken.reserve;
-    let after = Layer {
-        value: layer.value,
-        random: layer.random,
-        reserve: left,
-    };
-    Heard {
-        value: taken.value,
-        layer: after,
+    if layer.reserve.kind == ON_NOTE {
+        let Taken { value, reserve } = layer.reserve.next(layer.value);
+        Heard {
+            value,
+            layer: Layer {
+                value,
+                reserve,
+                ..layer
+            },
+        }
+    } else {
+        let Taken { value, reserve } = layer.reserve.at_time(timepos, layer.value);
+        Heard {
+            value,
+            layer: Layer { reserve, ..layer },
+        }
     }
 }
 
@@ -208,13 +137,9 @@ fn advance(mut sum: Velocity, i: usize, timepos: i64) -> Velocity
     ensures value { result ≡ further sum i timepos }
     ensures value_bound_2 { mag result.value ≤ (i + 2) * 2 ^ 32 }
 {
-    let mut layers = sum.layers;
-    let layer = layers.items[i];
-    let heard = layer_heard(layer, timepos);
-    let after = heard.layer;
-    layers.items[i] = after;
-    sum.value = sum.value + (heard.value as i64);
-    sum.layers = layers;
+    let heard = layer_heard(sum.layers.items[i], timepos);
+    sum.layers.items[i] = heard.layer;
+    sum.value += i64::from(heard.value);
     sum
 }
 
@@ -224,16 +149,13 @@ fn sum_layers(layers: Layers, timepos: i64, velocity: i32) -> Velocity
     requires timepos_value { is_time timepos ≡ true }
     ensures { result ≡ summed layers timepos velocity }
 {
-    let n = layers.count;
     let mut sum = Velocity {
         code: 0,
-        value: velocity as i64,
-        layers: layers,
+        value: i64::from(velocity),
+        layers,
     };
-    let mut i: usize = 0;
-    while i < n {
+    for i in 0..layers.count {
         sum = advance(sum, i, timepos);
-        i += 1;
     }
     sum
 }
@@ -243,67 +165,71 @@ impl Layers {
     pub fn new() -> Layers
         ensures { result ≡ one_layer }
     {
-        let layer = fresh_layer();
         Layers {
             count: 1,
-            items: [layer; LAYER_LIMIT],
+            items: [fresh_layer(); LAYER_LIMIT],
+        }
+    }
+
+    // The layers grown up to `index` and the one there changed, where they are in range and so is what is asked with the index, or as
+    // they were given.
+    #[tactic(auto, unfolding(crate::specs::Layers::changed))]
+    fn changed<F: FnOnce(&mut Layer)>(self, index: usize, ok: bool, change: F) -> LayersAnswer
+        requires { F.IsAlwaysCallable change }
+        ensures refused { (ok_layers self && ok) ≡ false → result ≡ record { code = 4; layers = self } }
+        ensures beyond { (ok_layers self && ok) ≡ true → layer_limit ≤ index → result ≡ record { code = 5; layers = self } }
+        ensures changed { (ok_layers self && ok) ≡ true → index < layer_limit → (result.code ≡ 0) × ((a : Layer) × FnOnceReturnsAtMut F.FnOnce change (get_or (grown self index).items index fresh_layer) tt a × (result.layers ≡ changed self index (λ _. a))) }
+    {
+        if !(layers_ok(self) & ok) {
+            return LayersAnswer {
+                code: Refusal::OutOfRange.number(),
+                layers: self,
+            };
+        }
+        if LAYER_LIMIT <= index {
+            return LayersAnswer {
+                code: Refusal::NoLayer.number(),
+                layers: self,
+            };
+        }
+        let mut layers = grow(self, index);
+        let mut layer = layers.items[index];
+        change(&mut layer);
+        layers.items[index] = layer;
+        LayersAnswer { code: 0, layers }
+    }
+
+    // The layers with what is to be reserved for one, or as they were given.
+    fn reserving(self, index: usize, made: Result<Reserve, Refusal>) -> LayersAnswer
+        ensures { result ≡ reserving (ok_layers self) self index made }
+    {
+        match made {
+            Ok(reserve) => self.changed(index, true, |layer| layer.reserve = reserve),
+            Err(refusal) => LayersAnswer {
+                code: refusal.number(),
+                layers: self,
+            },
         }
     }
 
     // A layer's value; nothing stays reserved for it. Refuses 4, 5.
-    #[tactic(auto, unfolding(crate::specs::Calls::answered))]
     pub fn set_v_sub(self, index: usize, velocity: i32) -> LayersAnswer
         ensures { result ≡ set_v_sub self index velocity }
     {
-        let a = layers_ok(self);
-        let b = is_number(velocity);
-        if !(a & b) {
-            return LayersAnswer {
-                code: 4,
-                layers: self,
-            };
-        }
-        if LAYER_LIMIT <= index {
-            return LayersAnswer {
-                code: 5,
-                layers: self,
-            };
-        }
-        let left = put_value(self, index, velocity);
-        LayersAnswer {
-            code: 0,
-            layers: left,
-        }
+        self.changed(index, is_number(velocity), |layer| {
+            layer.value = velocity;
+            layer.reserve = idle_reserve();
+        })
     }
 
     // A layer's random width. Refuses 4, 5.
-    #[tactic(auto, unfolding(crate::specs::Calls::answered))]
     pub fn set_v_sub_random(self, index: usize, random: i32) -> LayersAnswer
         ensures { result ≡ set_v_sub_random self index random }
     {
-        let a = layers_ok(self);
-        let b = is_random(random);
-        if !(a & b) {
-            return LayersAnswer {
-                code: 4,
-                layers: self,
-            };
-        }
-        if LAYER_LIMIT <= index {
-            return LayersAnswer {
-                code: 5,
-                layers: self,
-            };
-        }
-        let left = put_random(self, index, random);
-        LayersAnswer {
-            code: 0,
-            layers: left,
-        }
+        self.changed(index, is_random(random), |layer| layer.random = random)
     }
 
     // Reserves a curve for a layer, from `timepos` and the velocity parameter's delay on. Refuses 3, 4, 5.
-    #[tactic(auto, using(crate::proofs::Laid::laid_triples), unfolding(crate::specs::Calls::answered))]
     pub fn set_v_sub_on_time(
         self,
         index: usize,
@@ -313,42 +239,11 @@ impl Layers {
     ) -> LayersAnswer
         ensures { result ≡ set_v_sub_on_time self index timepos delay values.now }
     {
-        let listed = numbers_of(values);
-        if listed.code != 0 {
-            return LayersAnswer {
-                code: 3,
-                layers: self,
-            };
-        }
-        let list = listed.list;
-        let a = layers_ok(self);
-        let b = is_time(timepos);
-        let c = is_length(delay);
-        let d = curve_ok(list);
-        if !(a & b & c & d) {
-            return LayersAnswer {
-                code: 4,
-                layers: self,
-            };
-        }
-        if LAYER_LIMIT <= index {
-            return LayersAnswer {
-                code: 5,
-                layers: self,
-            };
-        }
-        let start = delayed(timepos, delay);
-        let reserve = curve_reserve(start, list);
-        let left = put_reserve(self, index, reserve);
-        LayersAnswer {
-            code: 0,
-            layers: left,
-        }
+        self.reserving(index, curve_asked(timepos, delay, values))
     }
 
     // Reserves a cycle for a layer, its length and then its values, from `timepos` and the velocity parameter's delay on; nothing,
     // where there is no value. Refuses 3, 4, 5.
-    #[tactic(auto, unfolding(crate::specs::Calls::answered))]
     pub fn set_v_sub_on_cycle(
         self,
         index: usize,
@@ -358,75 +253,15 @@ impl Layers {
     ) -> LayersAnswer
         ensures { result ≡ set_v_sub_on_cycle self index timepos delay args.now }
     {
-        let listed = cycle_args(args);
-        if listed.code != 0 {
-            return LayersAnswer {
-                code: 3,
-                layers: self,
-            };
-        }
-        let list = listed.values;
-        let a = layers_ok(self);
-        let b = is_time(timepos);
-        let c = is_length(delay);
-        let d = is_length(listed.length);
-        let e = numbers_ok(list);
-        if !(a & b & c & d & e) {
-            return LayersAnswer {
-                code: 4,
-                layers: self,
-            };
-        }
-        if LAYER_LIMIT <= index {
-            return LayersAnswer {
-                code: 5,
-                layers: self,
-            };
-        }
-        let start = delayed(timepos, delay);
-        let reserve = cycle_reserve(start, listed.length, list);
-        let left = put_reserve(self, index, reserve);
-        LayersAnswer {
-            code: 0,
-            layers: left,
-        }
+        self.reserving(index, cycle_asked(timepos, delay, args))
     }
 
     // Reserves a value of a layer for each of the next notes, round and round where the velocity parameter's repeat stands.
     // Refuses 3, 4, 5.
-    #[tactic(auto, using(crate::proofs::Laid::laid_list), unfolding(crate::specs::Calls::answered))]
     pub fn set_v_sub_on_note(self, index: usize, repeat: u32, values: &[i32]) -> LayersAnswer
         ensures { result ≡ set_v_sub_on_note self index repeat values.now }
     {
-        let listed = numbers_of(values);
-        if listed.code != 0 {
-            return LayersAnswer {
-                code: 3,
-                layers: self,
-            };
-        }
-        let list = listed.list;
-        let a = layers_ok(self);
-        let b = repeat <= 1;
-        let c = numbers_ok(list);
-        if !(a & b & c) {
-            return LayersAnswer {
-                code: 4,
-                layers: self,
-            };
-        }
-        if LAYER_LIMIT <= index {
-            return LayersAnswer {
-                code: 5,
-                layers: self,
-            };
-        }
-        let reserve = note_reserve(repeat, list);
-        let left = put_reserve(self, index, reserve);
-        LayersAnswer {
-            code: 0,
-            layers: left,
-        }
+        self.reserving(index, notes_asked(repeat, values))
     }
 
     // A note's velocity at `timepos`: the given one and what every layer adds to it. The layers come back advanced. Refuses 4.
@@ -434,16 +269,14 @@ impl Layers {
     pub fn apply_v_sub(self, timepos: i64, velocity: i32) -> Velocity
         ensures { result ≡ apply_v_sub self timepos velocity }
     {
-        let a = layers_ok(self);
-        let b = is_time(timepos);
-        let c = is_number(velocity);
-        if !(a & b & c) {
-            return Velocity {
-                code: 4,
+        if layers_ok(self) & is_time(timepos) & is_number(velocity) {
+            sum_layers(self, timepos, velocity)
+        } else {
+            Velocity {
+                code: Refusal::OutOfRange.number(),
                 value: 0,
                 layers: self,
-            };
+            }
         }
-        sum_layers(self, timepos, velocity)
     }
 }

@@ -2,4 +2,3 @@ pub mod Limits
 pub mod Calls
 pub mod Kept
 pub mod Options
-pub mod Laid

@@ -13,7 +13,7 @@ use lib.Signed.{mag, lt_z, le_z}
 use mathlib.Core.Bool.{true≢false}
 use Rattle.laws.specs.Integers.{range_of, inside}
 use Rattle.params.specs.declared.NoteParam.{NoteParam}
-use Rattle.params.specs.declared.Max.TheVariants.{Most}
+use Rattle.std.proofs.Common.{Some}
 use Rattle.params.specs.Param.{under_max, in_range, range_for, limited}
 
 either : (b : Bool) (x y : ℤ) (n : ℕ) → mag x < n → mag y < n → mag (cond b x y) < n
@@ -51,7 +51,7 @@ range_inside low v high h = below (lt_z v low) refl
     below false e = above (lt_z high v) refl e
 
 -- ---- the maximum
-under : (top v : ℤ) → le_z (under_max (Most top) v) top ≡ true
+under : (top v : ℤ) → le_z (under_max (Some top) v) top ≡ true
 under top v = go (lt_z top v) refl
   where
     go : (b : Bool) → lt_z top v ≡ b → le_z (cond b top v) top ≡ true

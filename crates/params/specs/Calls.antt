@@ -1,10 +1,13 @@
 -- 01, "Values per note" and "Numbers that come back": what each call on a parameter answers and leaves. The tests give the
 -- number, and by it the answer is chosen; refused, the parameter is the one that was given.
-use Rattle.std.specs.Prelude.{cond, ◌&&◌, List, ℕ, eqb, ℤ, pos, ◌+ℤ◌}
+use Rattle.std.specs.Prelude.{Bool, cond, ◌&&◌, List, ℕ, eqb, ℤ, pos, ◌+ℤ◌, Option, Some, None, Result, Ok, Err}
 use Rattle.laws.specs.Lists.{all}
 use Rattle.numbers.specs.Ranges.{is_time, is_number, is_length, is_random}
+use Rattle.numbers.specs.Refusals.{number_of}
+use Rattle.numbers.specs.declared.refusals.Refusal.{Refusal}
 use Rattle.counted.specs.Numbers.{numbers}
 use Rattle.counted.specs.Curves.{is_curve}
+use Rattle.reserved.specs.declared.Reserve.{Reserve}
 use Rattle.reserved.specs.declared.Taken.{Taken}
 use Rattle.reserved.specs.Reserve.{idle, curve_from, notes_from, timed, noted}
 use Rattle.reserved.specs.Setting.{demand, list_demand, length_of, rest_of, cycle_for}
@@ -25,6 +28,15 @@ given n a t =
 
 unfoldable pub told : ℕ → ℤ → Told
 told n v = cond (eqb n 0) (record { code = 0; value = v }) (record { code = n; value = pos 0 })
+
+-- by whether the parameter is in range, and what is to be reserved or why it is not; by what a note took, or 4
+abbrev pub reserving : Bool → NoteParam → Result Reserve Refusal → ParamAnswer
+reserving ok a (Ok r) = answered (demand ok) a (with_reserve a r)
+reserving ok a (Err e) = record { code = number_of e; param = a }
+
+abbrev pub taking : NoteParam → Option Taken → ParamValue
+taking a (Some t) = record { code = 0; value = t.value; param = with_reserve a t.reserve }
+taking a None = record { code = 4; value = pos 0; param = a }
 
 -- ---- reserving: starts take the delay; on-note lists go round only if repeat stood when they were set
 abbrev pub clear_reserve : NoteParam → ParamAnswer

@@ -1,15 +1,11 @@
 -- 01, item 4: a note parameter, the ranges of its numbers, and its limits.
-use Rattle.std.specs.Prelude.{Bool, cond, ◌&&◌, ℕ, eqb, leb, ℤ, pos}
+use Rattle.std.specs.Prelude.{Bool, cond, ◌&&◌, ℕ, eqb, leb, ℤ, pos, Option, Some, None}
 use Rattle.std.specs.Int.Signed.{lt_z}
 use Rattle.laws.specs.Integers.{range_of}
 use Rattle.numbers.specs.Ranges.{is_number, is_length, is_random, absent_or}
 use Rattle.reserved.specs.declared.Reserve.{Reserve}
 use Rattle.reserved.specs.Reserve.{ok_reserve, idle}
 use Rattle.params.specs.declared.NoteParam.{NoteParam}
-use Rattle.params.specs.declared.Range.{Range}
-use Rattle.params.specs.declared.Range.TheVariants.{Open, Ends}
-use Rattle.params.specs.declared.Max.{Max}
-use Rattle.params.specs.declared.Max.TheVariants.{Absent, Most}
 
 abbrev pub param : Reserve → ℤ → ℕ → ℤ → ℤ → ℤ → ℕ → ℤ → ℕ → NoteParam
 param r n g l h d m x p =
@@ -50,23 +46,23 @@ unfoldable pub ok_param : NoteParam → Bool
 ok_param a = ok_reserve a.reserve && is_length a.delay && ok_limits a
 
 -- ---- limits: first the range, then the maximum, where there is one
-abbrev pub range_for : NoteParam → Range
-range_for a = cond (eqb a.ranged 0) Open (Ends a.low a.high)
+abbrev pub range_for : NoteParam → Option (ℤ × ℤ)
+range_for a = cond (eqb a.ranged 0) None (Some (a.low, a.high))
 
-abbrev pub max_for : NoteParam → Max
-max_for a = cond (eqb a.maxed 0) Absent (Most a.max)
+abbrev pub max_for : NoteParam → Option ℤ
+max_for a = cond (eqb a.maxed 0) None (Some a.max)
 
-abbrev pub in_range : Range → ℤ → ℤ
-in_range Open v = v
-in_range (Ends low high) v = range_of low v high
+abbrev pub in_range : Option (ℤ × ℤ) → ℤ → ℤ
+in_range None v = v
+in_range (Some (low, high)) v = range_of low v high
 
-abbrev pub under_max : Max → ℤ → ℤ
-under_max Absent v = v
-under_max (Most top) v = cond (lt_z top v) top v
+abbrev pub under_max : Option ℤ → ℤ → ℤ
+under_max None v = v
+under_max (Some top) v = cond (lt_z top v) top v
 
-abbrev pub max_or : Max → ℤ → ℤ
-max_or Absent def = def
-max_or (Most top) def = top
+abbrev pub max_or : Option ℤ → ℤ → ℤ
+max_or None def = def
+max_or (Some top) def = top
 
 unfoldable pub limited : NoteParam → ℤ → ℤ
 limited a v = under_max (max_for a) (in_range (range_for a) v)

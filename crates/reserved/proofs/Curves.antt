@@ -9,19 +9,19 @@ use native.Mathlib.Numerals.{add-one}
 use borrow.Author.Tests.{lt-ltb, le-ltb}
 use lib.ListN.{length, get_or, drop, drop_of_length-le}
 use lib.Seq.{drop-cons}
+use Rattle.std.proofs.Common.{Some, None}
 use Rattle.laws.specs.Integers.{cut}
 use Rattle.shapes.specs.Curve.{curve_of}
 use Rattle.counted.specs.Curves.{Triple, no_triple}
-use Rattle.reserved.specs.declared.CurveValue.TheVariants.{At, Past}
 use Rattle.reserved.specs.Curve.{curve_at}
 
 module _ (l : List Triple) (i t : ℕ) where
-  pub over : length l ≤ i → curve_at (drop i l) t ≡ Past
+  pub over : length l ≤ i → curve_at (drop i l) t ≡ None
   unfolding curve_at
   over h = ap (λ (x : List Triple). curve_at x t) (drop_of_length-le l h)
 
   module _ (h : i < length l) (n : ℕ) (e : n ≡ cut (get_or l i no_triple).length) where
-    pub here : t < n → curve_at (drop i l) t ≡ At (curve_of (get_or l i no_triple).low (get_or l i no_triple).high t n)
+    pub here : t < n → curve_at (drop i l) t ≡ Some (curve_of (get_or l i no_triple).low (get_or l i no_triple).high t n)
     unfolding curve_at
     here k = ap (λ (x : List Triple). curve_at x t) (drop-cons l i no_triple h) ∙ rw (← e, lt-ltb t n k)
 

@@ -8,11 +8,11 @@ use borrow.Author.Tests.{eqb-false}
 use lib.Dec.{eqb}
 use lib.IntN.{ℤ, pos}
 use lib.ListN.{get_or}
+use Rattle.std.proofs.Common.{Some}
 use Rattle.laws.specs.Integers.{cut}
 use Rattle.laws.proofs.Ranges.{left, right}
 use Rattle.numbers.specs.Ranges.{is_stored_time, is_length}
 use Rattle.counted.specs.Numbers.{ok_numbers}
-use Rattle.reserved.specs.declared.Since.TheVariants.{Before, Steps}
 use Rattle.reserved.specs.declared.OnCycleTime.{OnCycleTime}
 use Rattle.reserved.specs.Cycle.{since_of, ok_cycle, cycle_from, cycle_at}
 
@@ -37,16 +37,7 @@ module _ (c : OnCycleTime) (e : ok_cycle c ≡ true) where
   unfolding ok_cycle
   cycle-values = right (is_stored_time c.start && is_length c.length) (ok_numbers c.values) e
 
-module _ (c : OnCycleTime) (t : ℤ) where
-  pub not-begun : since_of c.start t ≡ Before → [] ≡ cycle_at c t
+module _ (c : OnCycleTime) (t : ℤ) (k n : ℕ) (s : since_of c.start t ≡ Some k) (l : n ≡ cut c.length) where
+  pub a-value : (eqb n 0 || eqb c.values.count 0) ≡ false → (get_or c.values.items (k / n % c.values.count) (pos 0) ∷ []) ≡ cycle_at c t
   unfolding cycle_at
-  not-begun s = sym (ap (cycle_from c) s)
-
-  module _ (k n : ℕ) (s : since_of c.start t ≡ Steps k) (l : n ≡ cut c.length) where
-    pub no_value : (eqb n 0 || eqb c.values.count 0) ≡ true → [] ≡ cycle_at c t
-    unfolding cycle_at
-    no_value e = sym (ap (cycle_from c) s ∙ rw (← l, e))
-
-    pub a-value : (eqb n 0 || eqb c.values.count 0) ≡ false → (get_or c.values.items (k / n % c.values.count) (pos 0) ∷ []) ≡ cycle_at c t
-    unfolding cycle_at
-    a-value e = sym (ap (cycle_from c) s ∙ rw (← l, e))
+  a-value e = sym (ap (cycle_from c) s ∙ rw (← l, e))

@@ -10,22 +10,17 @@ use borrow.Author.Tests.{le-leb, leb-false}
 use lib.Dec.{eqb, leb}
 use lib.IntN.{ℤ, pos, ◌+ℤ◌}
 use lib.ListN.{get_or}
+use Rattle.std.proofs.Common.{Option, Some, None}
 use Rattle.laws.specs.Integers.{sized, inside}
 use Rattle.laws.specs.Lists.{all, counted}
 use Rattle.laws.proofs.Ranges.{sized-small}
 use Rattle.laws.proofs.Signed.{mag-add}
 use Rattle.numbers.specs.Ranges.{is_time, is_stored_time, is_number, is_length}
 use Rattle.counted.specs.declared.Numbers.{Numbers}
-use Rattle.counted.specs.declared.Got.{Got}
-use Rattle.counted.specs.declared.Got.TheVariants.{Value, Nothing}
 use Rattle.counted.specs.Numbers.{shown, ok_numbers, got_at}
 use Rattle.counted.specs.Curves.{triples, ok_curve}
 use Rattle.counted.proofs.Sizes.{time-mag, length-mag}
 use Rattle.counted.proofs.Counted.{numbers-at}
-use Rattle.reserved.specs.declared.Since.{Since}
-use Rattle.reserved.specs.declared.Since.TheVariants.{Before, Steps}
-use Rattle.reserved.specs.declared.CurveValue.{CurveValue}
-use Rattle.reserved.specs.declared.CurveValue.TheVariants.{At, Past}
 use Rattle.reserved.specs.declared.Reserve.{Reserve}
 use Rattle.reserved.specs.Cycle.{since_of, calc_of}
 use Rattle.reserved.specs.Curve.{curve_at}
@@ -75,14 +70,14 @@ module _ (v : Numbers) where
       go true = idle-ok
       go false = made (cycle_over s n v) refl h l (omega arith) k
 
-got-below : (b : Bool) (x v : ℤ) → cond b Nothing (Value x) ≡ Value v → b ≡ false
+got-below : (b : Bool) (x v : ℤ) → cond b None (Some x) ≡ Some v → b ≡ false
 got-below true x v q = absurd (let z : ◌≡◌ {A = ℕ} 0 1 = cc in omega arith)
 got-below false x v q = refl
 
 module _ (r : Reserve) (e : ok_reserve r ≡ true) (def : ℤ) where
-  listed : (g : Got) → got_at r.values (place r) ≡ g → ok_reserve (from_list r (place r) def g).reserve ≡ true
-  listed Nothing q = idle-ok
-  listed (Value v) q =
+  listed : (g : Option ℤ) → got_at r.values (place r) ≡ g → ok_reserve (from_list r (place r) def g).reserve ≡ true
+  listed None q = idle-ok
+  listed (Some v) q =
       let h = leb-false r.values.count (place r) (got-below (leb r.values.count (place r)) _ v q) in
       made (reserved r.kind r.cycling r.start r.length (place r + 1) r.values) (reserve-tags r e) (reserve-start r e) (reserve-length r e)
       (omega arith) (reserve-values r e)
@@ -96,7 +91,7 @@ module _ (r : Reserve) (e : ok_reserve r ≡ true) (def : ℤ) where
       go false = e
 
   module _ (d : is_number def ≡ true) where
-    from_list_lem : (b : Bool) (i : ℕ) → leb r.values.count i ≡ b → is_number (from_list r i def (cond b Nothing (Value (get_or r.values.items i (pos 0))))).value ≡ true
+    from_list_lem : (b : Bool) (i : ℕ) → leb r.values.count i ≡ b → is_number (from_list r i def (cond b None (Some (get_or r.values.items i (pos 0))))).value ≡ true
     from_list_lem true i q = d
     from_list_lem false i q = numbers-at r.values i (reserve-numbers r e) (leb-false r.values.count i q)
 
@@ -108,13 +103,13 @@ module _ (r : Reserve) (e : ok_reserve r ≡ true) (def : ℤ) where
         go true = from_list_lem (leb r.values.count (place r)) (place r) refl
         go false = d
 
-  curved : (c : CurveValue) → ok_reserve (from_curve r def c).reserve ≡ true
-  curved (At v) = e
-  curved Past = idle-ok
+  curved : (c : Option ℤ) → ok_reserve (from_curve r def c).reserve ≡ true
+  curved (Some v) = e
+  curved None = idle-ok
 
-  begun : (s : Since) → ok_reserve (from_since r def s).reserve ≡ true
-  begun Before = e
-  begun (Steps k) = curved (curve_at (triples (shown r.values)) k)
+  begun : (s : Option ℕ) → ok_reserve (from_since r def s).reserve ≡ true
+  begun None = e
+  begun (Some k) = curved (curve_at (triples (shown r.values)) k)
 
   pub timed-kept : (t : ℤ) → ok_reserve (timed r t def).reserve ≡ true
   unfolding timed

@@ -5,3 +5,4 @@ pub mod Settings
 pub mod Turns
 pub mod Starts
 pub mod Kept
+pub mod Laid

@@ -1,15 +1,9 @@
 -- 01, "Values per note": what a note parameter or a velocity layer has reserved, and what a note takes of it.
-use Rattle.std.specs.Prelude.{Bool, cond, ◌&&◌, List, [], ◌∷◌, ℕ, ◌+◌, eqb, leb, ℤ, pos}
+use Rattle.std.specs.Prelude.{Bool, cond, ◌&&◌, List, [], ◌∷◌, ℕ, ◌+◌, eqb, leb, ℤ, pos, Option, Some, None}
 use Rattle.numbers.specs.Ranges.{is_stored_time, is_length}
 use Rattle.counted.specs.declared.Numbers.{Numbers}
-use Rattle.counted.specs.declared.Got.{Got}
-use Rattle.counted.specs.declared.Got.TheVariants as got
 use Rattle.counted.specs.Numbers.{none, shown, ok_numbers, got_at}
 use Rattle.counted.specs.Curves.{triples, ok_curve}
-use Rattle.reserved.specs.declared.Since.{Since}
-use Rattle.reserved.specs.declared.Since.TheVariants.{Before, Steps}
-use Rattle.reserved.specs.declared.CurveValue.{CurveValue}
-use Rattle.reserved.specs.declared.CurveValue.TheVariants.{At, Past}
 use Rattle.reserved.specs.declared.OnCycleTime.{OnCycleTime}
 use Rattle.reserved.specs.declared.Reserve.{Reserve}
 use Rattle.reserved.specs.declared.Taken.{Taken}
@@ -66,14 +60,14 @@ first_or def [] = def
 first_or def (v ∷ l) = v
 
 -- a curve that is over goes
-abbrev pub from_curve : Reserve → ℤ → CurveValue → Taken
-from_curve r def (At v) = taken v r
-from_curve r def Past = taken def idle
+abbrev pub from_curve : Reserve → ℤ → Option ℤ → Taken
+from_curve r def (Some v) = taken v r
+from_curve r def None = taken def idle
 
 -- a curve that is yet to begin stays
-abbrev pub from_since : Reserve → ℤ → Since → Taken
-from_since r def Before = taken def r
-from_since r def (Steps k) = from_curve r def (curve_at (triples (shown r.values)) k)
+abbrev pub from_since : Reserve → ℤ → Option ℕ → Taken
+from_since r def None = taken def r
+from_since r def (Some k) = from_curve r def (curve_at (triples (shown r.values)) k)
 
 -- what a curve or a cycle gives at a time
 unfoldable pub timed : Reserve → ℤ → ℤ → Taken
@@ -85,9 +79,9 @@ timed r t def =
 abbrev pub place : Reserve → ℕ
 place r = cond (leb r.values.count r.index && eqb r.cycling 1) 0 r.index
 
-abbrev pub from_list : Reserve → ℕ → ℤ → Got → Taken
-from_list r i def (got.Value v) = taken v (reserved r.kind r.cycling r.start r.length (i + 1) r.values)
-from_list r i def got.Nothing = taken def idle
+abbrev pub from_list : Reserve → ℕ → ℤ → Option ℤ → Taken
+from_list r i def (Some v) = taken v (reserved r.kind r.cycling r.start r.length (i + 1) r.values)
+from_list r i def None = taken def idle
 
 -- what the next note takes of a list; a spent one goes
 unfoldable pub noted : Reserve → ℤ → Taken

@@ -1,44 +1,25 @@
--- `thirds_ok` tests the triples from the front (the law Tests): the third number of triple i stands at i * 3 + 2.
--- The measure is what is left of the triples.
-use mathlib.Core.Path.{◌≡◌, refl, ◌∙◌, sym}
-use native.Mathlib.Omega.{arith}
-use lib.ListN.{length}
-use mir.Syntax.{w32}
-use Rattle.laws.proofs.Tests.{ended, passed, failed, is_at}
+-- `thirds_ok` tests the third number of each chunk of three: that of triple i stands at i * 3 + 2.
+use Rattle.std.proofs.Common.{rules, arith, ◌≡◌, ◌+◌, ◌*◌, length, pos, ap, sym, ◌∙◌}
+use Rattle.std.specs.Iterator.Runs.{ItemsMapToExactChunks}
+use lib.Seq.{get_or-take, length-take-le}
 use Rattle.numbers.specs.Limits.{list_limit}
 use Rattle.numbers.specs.Ranges.{is_length}
 use Rattle.counted.specs.Numbers.{shown}
 use Rattle.counted.specs.Curves.{has_length, triples, no_triple}
+use Rattle.counted.proofs.Chains.{all-told, thirds-told}
 use Rattle.counted.proofs.Triples.{third, length-triples}
-use borrow.Author.Rules.{rules}
 use Rattle.counted.proofs.thirds_ok.Goals as goal
-
-pub loop-i-init : goal.loop-i-init
-loop-i-init c = (search rules, refl)
-
-pub returns-then-not-is_length : goal.returns-then-not-is_length
-returns-then-not-is_length c =
-    let a = c.args.list in
-    let e : length a.items ≡ list_limit = search rules in
-    let h = length-triples a (search rules) in
-    failed has_length (triples (shown a)) c.loop-i.i no_triple (omega arith)
-    (third a (search rules) c.loop-i.i (search rules) ∙ (sym (is_at w32 is_length c.x-1.given c.is_length.ensures) ∙ c.if-not-is_length.true))
-    c.loop-i.invariant.1
-
-pub loop-i-preserved : goal.loop-i-preserved
-loop-i-preserved c =
-    let a = c.args.list in
-    let e : length a.items ≡ list_limit = search rules in
-    let h = length-triples a (search rules) in (
-      search rules,
-      passed has_length (triples (shown a)) c.loop-i.i no_triple (omega arith)
-          (third a (search rules) c.loop-i.i (search rules) ∙ (sym (is_at w32 is_length c.x-1.given c.is_length.ensures) ∙ c.if-not-is_length.false))
-          c.loop-i.invariant.1,
-    )
 
 pub returns : goal.returns
 returns c =
     let a = c.args.list in
-    let e : length a.items ≡ list_limit = search rules in
-    let h = length-triples a (search rules) in
-    ended has_length (triples (shown a)) c.loop-i.i (omega arith) c.loop-i.invariant.1
+    let run = c.all.ensures.runs in
+    let room : length a.items ≡ list_limit = search rules in
+    let chunks : ItemsMapToExactChunks run.0 (λ x. x.now) 3 (shown a) = grind (arith, c.chunks_exact.ensures.runs run.0 run.0.seen) in
+    let n = length-triples a (omega arith) in
+    let m = length-take-le a.count a.items (omega arith) in
+    let there = thirds-told run.0 _ _ (shown a) is_length (λ x r q k. search rules) (λ x b k. search rules) chunks c.all.result run.2 in
+    all-told has_length (triples (shown a)) no_triple c.all.result (
+      λ e i h. third a (omega arith) i (omega arith) ∙ (sym (ap is_length (get_or-take a.count a.items (i * 3 + 2) (pos 0) (omega arith))) ∙ there.0 e i (omega arith)),
+      λ f. there.1 (λ i h. ap is_length (get_or-take a.count a.items (i * 3 + 2) (pos 0) (omega arith)) ∙ (sym (third a (omega arith) i (omega arith)) ∙ f i (omega arith))),
+    )

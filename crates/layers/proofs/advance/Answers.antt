@@ -28,7 +28,7 @@ returns c =
     let g : SFits w64 a.value = search rules in
     let m : mag (a.value +ℤ x.value) ≤ (c.args.i + 2) * 2 ^ 32 = let k = c.requires.value_bound in omega (arith, mag-add a.value x.value) in
     let s : SFits w64 (a.value +ℤ x.value) = let i = c.requires.i_lt_layer_limit in omega arith in
-    let b : to_z w64 (of_z w64 (to_z w64 (of_z w64 a.value) +ℤ to_z w64 (of_z w64 (to_z w32 (of_z w32 x.value))))) ≡ a.value +ℤ x.value = rw (to_z-of_z g, narrow_back w32 w64 f u, to_z-of_z s) in
+    let b : to_z w64 (of_z w64 (to_z w64 (of_z w64 a.value) +ℤ to_z w64 (of_z w64 c.from.result))) ≡ a.value +ℤ x.value = rw (to_z-of_z g, c.from.ensures, narrow_back w32 w64 f u, to_z-of_z s) in
     let n : length a.layers.items ≡ layer_limit = search rules in
     let q : x ≡ heard_of c.args.timepos (get_or a.layers.items c.args.i no_layer) = search rules in
     let e = q ∙ ap (heard_of c.args.timepos) (get_d_any a.layers.items c.args.i no_layer fresh_layer (omega arith)) in

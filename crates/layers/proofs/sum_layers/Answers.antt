@@ -22,9 +22,9 @@ advance-sum-requires-clause-fresh_layer_value c =
     let m : length a.items ≡ layer_limit = search rules in
     let k = layers-count a c.requires.layers_value in
     let z : Velocity = record { code = 0; value = to_z w64 (of_z w64 (to_z w32 (of_z w32 c.args.velocity))); layers = a } in
-    ap (λ (x : Velocity). ok_layer (get_or x.layers.items c.loop-i.i fresh_layer)) c.loop-i.invariant.1
+    ap (λ (x : Velocity). ok_layer (get_or x.layers.items c.loop-i.i fresh_layer)) c.loop-i.invariant.0
     ∙ ap ok_layer (summing-at (to_z w64 (of_z w64 c.args.timepos)) z c.loop-i.i (omega arith))
-    ∙ layers-at a c.requires.layers_value c.loop-i.i m c.loop-i-test.true
+    ∙ layers-at a c.requires.layers_value c.loop-i.i m (omega arith)
 
 pub loop-i-preserved : goal.loop-i-preserved
 loop-i-preserved c =
@@ -32,7 +32,6 @@ loop-i-preserved c =
     let m : length a.items ≡ layer_limit = search rules in
     let k = layers-count a c.requires.layers_value in
     let t = to_z w64 (of_z w64 c.args.timepos) in (
-      search rules,
-      c.advance-sum.ensures.value ∙ ap (λ (x : Velocity). further x c.loop-i.i t) c.loop-i.invariant.1 ∙ summing-more t _ c.loop-i.i (omega arith),
+      c.advance-sum.ensures.value ∙ ap (λ (x : Velocity). further x c.loop-i.i t) c.loop-i.invariant.0 ∙ summing-more t _ c.loop-i.i (omega arith),
       omega (arith, c.advance-sum.ensures.value_bound_2),
     )

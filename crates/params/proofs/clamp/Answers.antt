@@ -19,7 +19,7 @@ back f = narrow_back w32 w64 f (wide f)
 is : (c : goal.After-value_range) → c.value_range.result ≡ range_of c.args.low c.args.value c.args.high
 is c =
     let f = c.ranges in
-    c.value_range.ensures ∙ rw (back f.low, back f.value, back f.high)
+    c.value_range.ensures ∙ rw (c.from.ensures, c.from-2.ensures, c.from-3.ensures, back f.low, back f.value, back f.high)
 
 small : (c : goal.After-value_range) → SFits w32 c.value_range.result
 small c =

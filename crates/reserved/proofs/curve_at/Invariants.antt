@@ -1,15 +1,10 @@
--- `curve_at` walks the triples from the front (the law Curves); the invariant: the curve stands where what is left of it stands
--- after what is left of the time. The measure is what is left of the triples.
-use mathlib.Core.Path.{◌≡◌}
-use Prim.Native.Nat.{◌≤◌, ◌-◌}
-use lib.ListN.{drop}
+-- `curve_at` walks the triples from the front (the law Curves): the curve stands where what is left of it stands after what is
+-- left of the time.
+use Rattle.std.proofs.Common.{◌≡◌, drop}
 use Rattle.counted.specs.Numbers.{shown}
 use Rattle.counted.specs.Curves.{triples}
 use Rattle.reserved.specs.Curve.{curve_at}
 use Rattle.reserved.proofs.curve_at.Given as goal
 
 abbrev pub invariant-loop-i : goal.invariant-loop-i
-invariant-loop-i l = (l.i ≤ l.n) × (curve_at (triples (shown l.list)) l.steps ≡ curve_at (drop l.i (triples (shown l.list))) l.left)
-
-abbrev pub decreases-loop-i : goal.decreases-loop-i
-decreases-loop-i l = l.n - l.i
+invariant-loop-i l = curve_at (triples (shown l.list)) l.steps ≡ curve_at (drop l.i (triples (shown l.list))) l.left

@@ -27,5 +27,5 @@ returns c =
     let i = c.args.i in
     let m : length a.items ≡ list_limit = search rules in
     let h = numbers-count a (curve-numbers a c.requires.list_value) in
-    let f : SFits w32 (get_or a.items (i * 3 + 2) (pos 0)) = sfits_of c.length-1.given in
+    let f : SFits w32 (get_or a.items (i * 3 + 2) (pos 0)) = sfits_of c.span-arg-1.given in
     c.span.ensures ∙ ap cut (to_z-of_z f) ∙ sym (ap (λ (t : Triple). cut t.length) (triple-at a (omega arith) i c.requires.i_bound))

@@ -1,130 +1,78 @@
 -- `value_at` hands a triple's two ends to `curve_value`: they are numbers of a list, so they are within its range, and a
 -- length is far below its limit.
-use mathlib.Core.Path.{◌≡◌, sym, ap, ap₂, ◌∙◌}
-use Prim.Native.Nat.{ℕ, ◌≤◌, ◌+◌, ◌*◌, ◌^◌}
-use native.Mathlib.Omega.{arith}
-use lib.IntN.{ℤ, pos}
-use lib.ListN.{length, get_or}
+use Rattle.std.proofs.Common.{rules, arith, ◌≡◌, true, ℕ, ◌+◌, ◌*◌, ◌/◌, ◌^◌, ◌≤◌, ◌<◌, ℤ, pos, length, get_or, ◌∙◌}
 use lib.Signed.{mag}
 use mir.Syntax.{w32, w64}
 use mir.Val.{SFits, to_z, of_z}
-use mir.Facts.{to_z-of_z}
-use borrow.Author.Rules.{rules}
 use Rattle.laws.specs.Integers.{cut}
-use Rattle.laws.proofs.Signed.{narrow_back}
-use Rattle.laws.proofs.Signed.{cut-mag}
+use Rattle.laws.proofs.Signed.{narrow_back, cut-mag}
 use Rattle.numbers.specs.Limits.{list_limit}
-use Rattle.shapes.specs.Curve.{curve_of}
 use Rattle.counted.specs.declared.Numbers.{Numbers}
 use Rattle.counted.specs.Numbers.{shown}
-use Rattle.counted.specs.Curves.{Triple, triples, no_triple}
+use Rattle.counted.specs.Curves.{triples, no_triple, ok_curve}
 use Rattle.counted.proofs.Sizes.{number-mag, length-mag}
 use Rattle.counted.proofs.Counted.{numbers-count, numbers-at, curve-numbers, curve-length}
 use Rattle.counted.proofs.Triples.{triple-at}
 use Rattle.reserved.proofs.value_at.Goals as goal
 
-abbrev low : Numbers → ℕ → ℤ
-low l i = get_or l.items (i * 3) (pos 0)
+abbrev wide : ℤ → ℤ
+wide z = to_z w64 (of_z w64 (to_z w32 (of_z w32 z)))
 
-abbrev high : Numbers → ℕ → ℤ
-high l i = get_or l.items (i * 3 + 1) (pos 0)
+-- triple i of a curve's list
+module _ (l : Numbers) (e : ok_curve l ≡ true) (i : ℕ) (h : i < l.count / 3) where
+  count : l.count ≤ list_limit
+  count = numbers-count l (curve-numbers l e)
 
-abbrev triple : Numbers → ℕ → Triple
-triple l i = record { low = low l i; high = high l i; length = get_or l.items (i * 3 + 2) (pos 0) }
+  number : (j : ℕ) → j < 3 → mag (get_or l.items (i * 3 + j) (pos 0)) ≤ 2 ^ 22
+  number j k = number-mag (get_or l.items (i * 3 + j) (pos 0)) (numbers-at l (i * 3 + j) (curve-numbers l e) (omega arith))
 
-count : (c : goal.Start) → c.args.list.count ≤ list_limit
-count c = numbers-count _ (curve-numbers _ c.requires.list_value)
+  low : mag (get_or l.items (i * 3) (pos 0)) ≤ 2 ^ 22
+  low = number-mag (get_or l.items (i * 3) (pos 0)) (numbers-at l (i * 3) (curve-numbers l e) (omega arith))
 
-count-at-2 : (c : goal.After-low-1) → c.args.list.count ≤ list_limit
-count-at-2 c = numbers-count _ (curve-numbers _ c.requires.list_value)
+  module _ (m : length l.items ≡ list_limit) where
+    stands : get_or (triples (shown l)) i no_triple ≡ record { low = get_or l.items (i * 3) (pos 0); high = get_or l.items (i * 3 + 1) (pos 0); length = get_or l.items (i * 3 + 2) (pos 0) }
+    stands = let k = count in triple-at l (omega arith) i h
 
-count-at-3 : (c : goal.After-curve_value) → c.args.list.count ≤ list_limit
-count-at-3 c = numbers-count _ (curve-numbers _ c.requires.list_value)
+    short : cut (get_or (triples (shown l)) i no_triple).length ≤ 2 ^ 20
+    short =
+        let k = length-mag _ (curve-length l m i e h) in
+        rw stands (omega (arith, cut-mag (get_or l.items (i * 3 + 2) (pos 0))))
 
-count-at-4 : (c : goal.After-high-1) → c.args.list.count ≤ list_limit
-count-at-4 c = numbers-count _ (curve-numbers _ c.requires.list_value)
-
-room : (c : goal.After-high-1) → length c.args.list.items ≡ list_limit
-room c = search rules
-
-room-at-2 : (c : goal.After-curve_value) → length c.args.list.items ≡ list_limit
-room-at-2 c = search rules
-
-low-size : (c : goal.After-high-1) → mag (low c.args.list c.args.i) ≤ 2 ^ 22
-low-size c = number-mag (low c.args.list c.args.i) (numbers-at _ _ (curve-numbers _ c.requires.list_value) (omega arith))
-
-low-size-at-2 : (c : goal.After-curve_value) → mag (low c.args.list c.args.i) ≤ 2 ^ 22
-low-size-at-2 c = number-mag (low c.args.list c.args.i) (numbers-at _ _ (curve-numbers _ c.requires.list_value) (omega arith))
-
-high-size : (c : goal.After-high-1) → mag (high c.args.list c.args.i) ≤ 2 ^ 22
-high-size c = number-mag (high c.args.list c.args.i) (numbers-at _ _ (curve-numbers _ c.requires.list_value) (omega arith))
-
-high-size-at-2 : (c : goal.After-curve_value) → mag (high c.args.list c.args.i) ≤ 2 ^ 22
-high-size-at-2 c = number-mag (high c.args.list c.args.i) (numbers-at _ _ (curve-numbers _ c.requires.list_value) (omega arith))
-
-low-back : (c : goal.After-high-1) → to_z w64 (of_z w64 (to_z w32 (of_z w32 (low c.args.list c.args.i)))) ≡ low c.args.list c.args.i
-low-back c = let h = low-size c in narrow_back w32 w64 (omega arith) (omega arith)
-
-low-back-at-2 : (c : goal.After-curve_value) → to_z w64 (of_z w64 (to_z w32 (of_z w32 (low c.args.list c.args.i)))) ≡ low c.args.list c.args.i
-low-back-at-2 c = let h = low-size-at-2 c in narrow_back w32 w64 (omega arith) (omega arith)
-
-high-back : (c : goal.After-high-1) → to_z w64 (of_z w64 (to_z w32 (of_z w32 (high c.args.list c.args.i)))) ≡ high c.args.list c.args.i
-high-back c = let h = high-size c in narrow_back w32 w64 (omega arith) (omega arith)
-
-high-back-at-2 : (c : goal.After-curve_value) → to_z w64 (of_z w64 (to_z w32 (of_z w32 (high c.args.list c.args.i)))) ≡ high c.args.list c.args.i
-high-back-at-2 c = let h = high-size-at-2 c in narrow_back w32 w64 (omega arith) (omega arith)
-
-stands : (c : goal.After-curve_value) → get_or (triples (shown c.args.list)) c.args.i no_triple ≡ triple c.args.list c.args.i
-stands c = let h = count-at-3 c in let m = room-at-2 c in triple-at c.args.list (omega arith) c.args.i c.requires.i_bound
-
-stands-at-2 : (c : goal.After-high-1) → get_or (triples (shown c.args.list)) c.args.i no_triple ≡ triple c.args.list c.args.i
-stands-at-2 c = let h = count-at-4 c in let m = room c in triple-at c.args.list (omega arith) c.args.i c.requires.i_bound
-
-length-size : (c : goal.After-high-1) → c.args.len ≤ 2 ^ 20
-length-size c =
-    let h = length-mag _ (curve-length c.args.list (room c) c.args.i c.requires.list_value c.requires.i_bound) in
-    let e : c.args.len ≡ cut (triple c.args.list c.args.i).length = c.requires.len_value ∙ ap (λ (t : Triple). cut t.length) (stands-at-2 c) in
-    omega (arith, cut-mag (triple c.args.list c.args.i).length)
+back : (z : ℤ) → mag z ≤ 2 ^ 22 → wide z ≡ z
+back z h = narrow_back w32 w64 (omega arith) (omega arith)
 
 pub offset_bounds-list-i : goal.offset_bounds-list-i
-offset_bounds-list-i c = let h = count c in omega arith
+offset_bounds-list-i c = let h = count c.args.list c.requires.list_value c.args.i c.requires.i_bound in omega arith
 
 pub bounds-list-i : goal.bounds-list-i
-bounds-list-i c = let h = count c in omega arith
+bounds-list-i c = let h = count c.args.list c.requires.list_value c.args.i c.requires.i_bound in omega arith
 
 pub offset_bounds-list-i-2 : goal.offset_bounds-list-i-2
-offset_bounds-list-i-2 c = let h = count-at-2 c in omega arith
+offset_bounds-list-i-2 c = let h = count c.args.list c.requires.list_value c.args.i c.requires.i_bound in omega arith
 
 pub bounds-list-i-2 : goal.bounds-list-i-2
-bounds-list-i-2 c = let h = count-at-2 c in omega arith
-
-pub overflow_cast-low : goal.overflow_cast-low
-overflow_cast-low c =
-    let f = low-size c in
-    let g : SFits w32 (low c.args.list c.args.i) = omega arith in
-    rw (to_z-of_z g) (omega arith)
-
-pub overflow_cast-high : goal.overflow_cast-high
-overflow_cast-high c =
-    let f = high-size c in
-    let g : SFits w32 (high c.args.list c.args.i) = omega arith in
-    rw (to_z-of_z g) (omega arith)
+bounds-list-i-2 c = let h = count c.args.list c.requires.list_value c.args.i c.requires.i_bound in omega arith
 
 pub curve_value-requires : goal.curve_value-requires
 curve_value-requires c =
-    let k = length-size c in
-    record { low_bound = (rw (low-back c) (low-size c), rw (high-back c) (high-size c)); j_lt_len = (c.requires.j_lt_len, omega arith) }
-
-pub overflow_cast-result : goal.overflow_cast-result
-overflow_cast-result c =
-    let h = c.curve_value.ensures.result_bound in
-    let f : SFits w64 c.curve_value.result = omega arith in
-    rw (to_z-of_z f) (omega arith)
+    let a = c.args.list in
+    let i = c.args.i in
+    let m : length a.items ≡ list_limit = search rules in
+    let l = low a c.requires.list_value i c.requires.i_bound in
+    let h = number a c.requires.list_value i c.requires.i_bound 1 (omega arith) in
+    let k = short a c.requires.list_value i c.requires.i_bound m in
+    let n = c.requires.len_value in
+    record { low_bound = (rw (c.from.ensures, back _ l) l, rw (c.from-2.ensures, back _ h) h); j_lt_len = (c.requires.j_lt_len, omega arith) }
 
 pub returns : goal.returns
 returns c =
-    let h = c.curve_value.ensures.result_bound in
+    let a = c.args.list in
+    let i = c.args.i in
+    let m : length a.items ≡ list_limit = search rules in
+    let l = low a c.requires.list_value i c.requires.i_bound in
+    let h = number a c.requires.list_value i c.requires.i_bound 1 (omega arith) in
+    let b = c.curve_value.ensures.result_bound in
     let f : SFits w64 c.curve_value.result = omega arith in
     let g : SFits w32 c.curve_value.result = omega arith in
-    narrow_back w64 w32 f g ∙ c.curve_value.ensures.value ∙ ap₂ (λ (x y : ℤ). curve_of x y c.args.j c.args.len) (low-back-at-2 c) (high-back-at-2 c)
-    ∙ sym (ap (λ (t : Triple). curve_of t.low t.high c.args.j c.args.len) (stands c))
+    narrow_back w64 w32 f g ∙ c.curve_value.ensures.value
+    ∙ rw (c.from.ensures, c.from-2.ensures, back (get_or a.items (i * 3) (pos 0)) l, back (get_or a.items (i * 3 + 1) (pos 0)) h, stands a c.requires.list_value i c.requires.i_bound m)

@@ -1,41 +1,21 @@
--- `set_on_cycle` takes the arguments apart, tests, and stores a cycle from the delayed time on. A list that was laid is tested as
--- the lent one.
-use mathlib.Core.Path.{◌≡◌, sym, ap, ◌∙◌}
-use borrow.Author.Rules.{rules}
+-- A parameter in range has a delay and a repeat in range, so that what is reserved asks no more than the call.
+use Rattle.std.proofs.Common.{◌≡◌, rules, arith, ◌&&◌, ap, ◌∙◌}
 use lib.IntN.{◌+ℤ◌}
-use Rattle.laws.proofs.Tests.{both}
-use Rattle.numbers.specs.Ranges.{is_time, is_length}
-use Rattle.counted.specs.Numbers.{ok_numbers}
-use Rattle.reserved.specs.declared.CycleArgs.{CycleArgs}
-use Rattle.reserved.specs.Setting.{cycle_for}
-use Rattle.reserved.proofs.Settings.{args_fit, args_are}
-use Rattle.params.proofs.Calls.{list-refused, list_done}
-use Rattle.params.proofs.Laid.{laid_rest}
+use Rattle.laws.specs.Lists.{all}
+use Rattle.numbers.specs.Ranges.{is_time, is_length, is_number}
+use Rattle.counted.specs.Numbers.{numbers}
+use Rattle.reserved.specs.Setting.{length_of, rest_of, cycle_for, cycle_asked}
+use Rattle.params.specs.Param.{ok_param}
+use Rattle.params.specs.Calls.{reserving}
+use Rattle.params.proofs.Calls.{by_making, param-delay, param-limits, limits-repeat}
 use Rattle.params.proofs.NoteParam.set_on_cycle.Goals as goal
 
-pub returns-then-not-a-b : goal.returns-then-not-a-b
-returns-then-not-a-b c =
-    let v = c.args.args.now in
-    let l = c.cycle_args-listed.result in
-    let f = args_fit v (ap (λ (l : CycleArgs). l.code) (sym c.cycle_args-listed.ensures) ∙ c.if-listed-ne0.false) in
-    let k = c.cycle_args-listed.ensures ∙ args_are v f in
-    let q : c.is_time-b.result ≡ is_time c.args.timepos = search rules in
-    let r : c.is_length-c.result ≡ is_length l.length = search rules in
-    let w =
-    both (both (both c.param_ok-a.ensures q) (r ∙ ap (λ (l : CycleArgs). is_length l.length) k))
-    (c.numbers_ok-d.ensures ∙ ap (λ (l : CycleArgs). ok_numbers l.values) k ∙ laid_rest v f) in
-    list-refused v _ _ f (sym w ∙ c.if-not-a-b.true)
-
 pub returns : goal.returns
+unfolding cycle_asked
 returns c =
+    let a = c.args.self in
     let v = c.args.args.now in
-    let l = c.cycle_args-listed.result in
-    let f = args_fit v (ap (λ (l : CycleArgs). l.code) (sym c.cycle_args-listed.ensures) ∙ c.if-listed-ne0.false) in
-    let k = c.cycle_args-listed.ensures ∙ args_are v f in
-    let q : c.is_time-b.result ≡ is_time c.args.timepos = search rules in
-    let r : c.is_length-c.result ≡ is_length l.length = search rules in
-    let w =
-    both (both (both c.param_ok-a.ensures q) (r ∙ ap (λ (l : CycleArgs). is_length l.length) k))
-    (c.numbers_ok-d.ensures ∙ ap (λ (l : CycleArgs). ok_numbers l.values) k ∙ laid_rest v f) in
-    let s : c.cycle_reserve-self.result ≡ cycle_for (c.args.timepos +ℤ c.args.self.delay) l.length l.values = search rules in
-    rw (s ∙ ap (λ (l : CycleArgs). cycle_for (c.args.timepos +ℤ c.args.self.delay) l.length l.values) k) (list_done v _ _ f (sym w ∙ c.if-not-a-b.false))
+    let e : c.cycle_asked.result ≡ cycle_asked c.args.timepos a.delay v = search rules in
+    c.reserving.ensures ∙ ap (reserving (ok_param a) a) e
+    ∙ by_making v a (is_time c.args.timepos && is_length a.delay && is_length (length_of v) && all is_number (rest_of v)) (ok_param a && is_time c.args.timepos && is_length (length_of v) && all is_number (rest_of v)) (cycle_for (c.args.timepos +ℤ a.delay) (length_of v) (numbers (rest_of v)))
+    (λ e. let d = param-delay a e in let p = limits-repeat a (param-limits a e) in grind arith) (λ e. rw e)

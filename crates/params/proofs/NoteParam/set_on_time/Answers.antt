@@ -1,32 +1,22 @@
--- `set_on_time` lays the list, tests, and stores a curve from the delayed time on. A list that was laid is tested as the lent one.
-use mathlib.Core.Path.{◌≡◌, sym, ap, ◌∙◌}
+-- A parameter in range has a delay and a repeat in range, so that what is reserved asks no more than the call.
+use Rattle.std.proofs.Common.{◌≡◌, rules, arith, ◌&&◌, ap, ◌∙◌}
 use lib.IntN.{◌+ℤ◌}
-use borrow.Author.Rules.{rules}
-use Rattle.laws.proofs.Tests.{both}
-use Rattle.numbers.specs.Ranges.{is_time}
-use Rattle.counted.specs.declared.Listed.{Listed}
-use Rattle.counted.specs.Curves.{ok_curve}
-use Rattle.counted.proofs.Counted.{listed-fits, listed-list}
+use Rattle.numbers.specs.Ranges.{is_time, is_length}
+use Rattle.counted.specs.Numbers.{numbers}
+use Rattle.counted.specs.Curves.{is_curve}
 use Rattle.reserved.specs.Reserve.{curve_from}
-use Rattle.params.proofs.Calls.{list-refused, list_done}
-use Rattle.params.proofs.Laid.{laid_triples}
+use Rattle.reserved.specs.Setting.{curve_asked}
+use Rattle.params.specs.Param.{ok_param}
+use Rattle.params.specs.Calls.{reserving}
+use Rattle.params.proofs.Calls.{by_making, param-delay, param-limits, limits-repeat}
 use Rattle.params.proofs.NoteParam.set_on_time.Goals as goal
 
-pub returns-then-not-a-b : goal.returns-then-not-a-b
-returns-then-not-a-b c =
-    let v = c.args.values.now in
-    let f = listed-fits v (ap (λ (l : Listed). l.code) (sym c.numbers_of-listed.ensures) ∙ c.if-listed-ne0.false) in
-    let k = ap (λ (l : Listed). l.list) c.numbers_of-listed.ensures ∙ listed-list v f in
-    let q : c.is_time-b.result ≡ is_time c.args.timepos = search rules in
-    let w = both (both c.param_ok-a.ensures q) (c.curve_ok-c.ensures ∙ ap ok_curve k ∙ laid_triples v f) in
-    list-refused v _ _ f (sym w ∙ c.if-not-a-b.true)
-
 pub returns : goal.returns
+unfolding curve_asked
 returns c =
+    let a = c.args.self in
     let v = c.args.values.now in
-    let f = listed-fits v (ap (λ (l : Listed). l.code) (sym c.numbers_of-listed.ensures) ∙ c.if-listed-ne0.false) in
-    let k = ap (λ (l : Listed). l.list) c.numbers_of-listed.ensures ∙ listed-list v f in
-    let q : c.is_time-b.result ≡ is_time c.args.timepos = search rules in
-    let w = both (both c.param_ok-a.ensures q) (c.curve_ok-c.ensures ∙ ap ok_curve k ∙ laid_triples v f) in
-    let s : c.curve_reserve-self.result ≡ curve_from (c.args.timepos +ℤ c.args.self.delay) c.numbers_of-listed.result.list = search rules in
-    rw (s ∙ ap (curve_from (c.args.timepos +ℤ c.args.self.delay)) k) (list_done v _ _ f (sym w ∙ c.if-not-a-b.false))
+    let e : c.curve_asked.result ≡ curve_asked c.args.timepos a.delay v = search rules in
+    c.reserving.ensures ∙ ap (reserving (ok_param a) a) e
+    ∙ by_making v a (is_time c.args.timepos && is_length a.delay && is_curve v) (ok_param a && is_time c.args.timepos && is_curve v) (curve_from (c.args.timepos +ℤ a.delay) (numbers v))
+    (λ e. let d = param-delay a e in let p = limits-repeat a (param-limits a e) in grind arith) (λ e. rw e)
