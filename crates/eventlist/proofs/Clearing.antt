@@ -1,5 +1,6 @@
 -- What taking windows out of the list leaves and moves.
 --     first-within       the first that is taken stands among the events, or there is none
+--     some-taken         where some event is taken, one is counted
 --     untouched          where none is taken nothing is moved
 --     counted-moves      as many are moved as are kept behind the first that is taken
 --     moved-once, none-in-front, moves-arrive, moved-few   02, d): each kept record is moved at most once, and none before the first that is taken
@@ -7,14 +8,15 @@
 use mathlib.Core.Bool.{Bool, true, false, not, ◌||◌}
 use mathlib.Core.Path.{◌≡◌, refl, sym, ap, ◌∙◌, fun_ext}
 use mathlib.Core.List.{List, [], ◌∷◌}
-use Prim.Native.Nat.{ℕ, ◌+◌, ◌≤◌}
+use Prim.Native.Nat.{ℕ, ◌+◌, ◌-◌, ◌≤◌, ◌<◌}
 use native.Mathlib.Omega.{arith}
 use lib.IntN.{ℤ}
 use lib.ListN.{length, take}
 use lib.Seq.{length-take-le, take_all}
 use Rattle.laws.specs.Lists.{any, without, put_first}
 use Rattle.laws.specs.Moves.{times_moved, carried, in_front, moves}
-use Rattle.laws.proofs.Compact.{without-twice}
+use Rattle.laws.proofs.Compact.{without-twice, kept-most}
+use Rattle.laws.proofs.Taking.{begun}
 use Rattle.laws.proofs.Firsts.{put_same}
 use Rattle.laws.proofs.Leading.{leading_le}
 use Rattle.laws.proofs.Moves as moving
@@ -40,6 +42,15 @@ module _ (ws : List Window) (l : List ℤ) (count : ℕ) (fit : count ≤ length
   module _ (seen : Seen) (v : Surveyed ws l count seen) where
     pub first-within : seen.first ≤ count
     first-within = let a = v.first in let b = leading_le (λ e. not (out e)) es in let n = long in omega arith
+
+    -- where some event is taken, one is counted
+    pub some-taken : seen.first < count → 1 ≤ seen.taken
+    some-taken e =
+        let b = begun rows_of zero_event out l count seen.first fit v.first e in
+        let m = count - (seen.first + 1) in
+        let end : seen.first + 1 + m ≡ count = omega arith in
+        let k = rw end at (kept-most out zero_event (rows_of l) (seen.first + 1) m (omega arith)) in
+        omega (arith, b.counted, v.taken)
 
     module _ (e : seen.first ≡ count) where
       all-kept : kept_by_all ws l count ≡ es

@@ -5,15 +5,16 @@
 --     part-rows, put-rows, put-long       a stretch of records lent as a part, and put back
 --     put_front, front_long               a stretch from the start
 --     flat-rows_of, rows_of-flat            records and numbers, there and back
+--     zero_rows, rows_paste               records of zeros; a stretch written over another
 --     determined                          the records of a whole slice say every number of it
 use mathlib.Core.Path.{◌≡◌, refl, sym, ap, ◌∙◌}
 use mathlib.Core.List.{List, [], ◌∷◌, ◌++◌, append-nil}
-use Prim.Native.Nat.{ℕ, ◌+◌, ◌-◌, ◌*◌, ◌/◌, ◌≤◌, ◌<◌}
+use Prim.Native.Nat.{ℕ, zero, suc, ◌+◌, ◌-◌, ◌*◌, ◌/◌, ◌≤◌, ◌<◌}
 use native.Mathlib.Omega.{arith}
 use lib.IntN.{ℤ, pos}
 use lib.Dec.{lit<}
-use lib.ListN.{length, get_or, set, take, drop, get_or-append, length-append, length-take, length-drop, take-append-drop}
-use lib.Seq.{length-take-le, take_at, drop_at, take_all}
+use lib.ListN.{length, get_or, set, take, drop, replicate, replicate-append-replicate, get_or-append, length-append, length-take, length-drop, take-append-drop}
+use lib.Seq.{length-take-le, take_at, drop_at, take_all, paste}
 use borrow.Rule.Slice.PartMut.{put_mid}
 use Rattle.laws.specs.Rows.{flat}
 use Rattle.laws.proofs.Rows.{length-rows, get_d_rows, rows-splice, rows_append, length-flat, rows-flat, flat_rows}
@@ -163,3 +164,30 @@ rows_of-flat rs =
 pub determined : (l l' : List ℤ) (rs : List Event) → Whole l → length l' ≡ length l → rows_of l' ≡ rs → l' ≡ flat numbers_of rs
 unfolding Whole
 determined l l' rs w n e = let r = same_rows l' l n in sym (flat-rows_of l' (omega arith)) ∙ ap (flat numbers_of) e
+
+-- records of zeros
+zero_numbers : (n : ℕ) → flat numbers_of (replicate n zero_event) ≡ replicate (n * record_width) (pos 0)
+zero_numbers zero = refl
+zero_numbers (suc n) =
+    ap (λ (x : List ℤ). numbers_of zero_event ++ x) (zero_numbers n)
+    ∙ replicate-append-replicate record_width (n * record_width) (pos 0)
+    ∙ ap (λ (k : ℕ). replicate k (pos 0)) (omega arith)
+
+pub zero_rows : (n : ℕ) → rows_of (replicate (n * record_width) (pos 0)) ≡ replicate n zero_event
+zero_rows n = sym (ap rows_of (zero_numbers n)) ∙ rows_of-flat (replicate n zero_event)
+
+-- n records from record `from` on, written over those from record `to` on
+module _ (l : List ℤ) (from to n m : ℕ) (e : m ≡ n * record_width) (back : to ≤ from) (h : from + n ≤ length (rows_of l)) where
+  numbers_long : from * record_width + n * record_width ≤ length l
+  numbers_long = omega (arith, length-rows_of l)
+
+  pub rows_paste : rows_of (paste l (to * record_width) (drop (from * record_width) l) m) ≡ paste (rows_of l) to (drop from (rows_of l)) n
+  rows_paste =
+      let x = take (to * record_width) l in
+      let y = take (n * record_width) (drop (from * record_width) l) in
+      let w = numbers_long in
+      let behind : to * record_width + n * record_width ≡ (to + n) * record_width = omega arith in
+      let long : length (x ++ y) ≡ (to + n) * record_width = simp (length-append, length-take, length-drop) (omega arith) in
+      rw (e, behind)
+      (rows_of-append (x ++ y) (drop ((to + n) * record_width) l) (to + n) long
+      ∙ rw (rows_of-append x y to (length-take-le (to * record_width) l (omega arith)), rows_take l to (omega arith), part-rows l from n (n * record_width) refl w, rows_drop l (to + n) (omega arith)))

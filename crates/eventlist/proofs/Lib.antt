@@ -1,5 +1,4 @@
 pub mod EventRows
-pub mod WindowRows
 pub mod Spans
 pub mod Sound
 pub mod Bends

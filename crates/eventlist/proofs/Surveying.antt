@@ -4,7 +4,7 @@
 --     hit, in-front, behind             one event more: taken, or kept before or behind the first taken one
 --     further-on                        the three in one
 --     refused, unstored, ended          the answer
---     ok-is, surveyed                   what it says
+--     refusing, surveyed                what it says
 use mathlib.Core.Bool.{Bool, true, false, not, cond, ◌&&◌}
 use mathlib.Core.Path.{◌≡◌, refl, sym, ap, ◌∙◌}
 use mathlib.Core.List.{List, [], ◌∷◌}
@@ -13,6 +13,7 @@ use native.Mathlib.Nat.{add-zero}
 use native.Mathlib.Omega.{arith}
 use borrow.Author.Tests.{eqb-true, eqb-false}
 use lib.Dec.{eqb}
+use mir.Val.{bool_byte}
 use lib.ListN.{length, get_or, take, length-append}
 use lib.Seq.{length-take-le}
 use Rattle.laws.specs.Lists.{all}
@@ -22,6 +23,9 @@ use Rattle.laws.proofs.Compact.{kept, kept-drop, kept-keep}
 use Rattle.laws.proofs.Leading.{leading_le}
 use Rattle.laws.proofs.Moves.{front-past, front-kept-too, front-taken}
 use Rattle.laws.proofs.Tests.{Left, passed-of, failed-of, ended_of}
+use Rattle.std.specs.Prelude.{Result, Ok, Err}
+use Rattle.numbers.specs.declared.refusals.Refusal.{Refusal}
+use Rattle.numbers.specs.declared.refusals.Refusal.TheVariants.{OutOfRange}
 use Rattle.events.specs.declared.Event.{Event}
 use Rattle.events.specs.Events.{ok_event, zero_event}
 use Rattle.eventlist.specs.declared.Seen.{Seen}
@@ -32,7 +36,7 @@ use Rattle.eventlist.specs.Sound.{ok_events}
 use Rattle.eventlist.specs.Windows.{taken_by_any}
 use Rattle.eventlist.specs.Clearing.{kept_by_all, Surveyed, survey_of}
 
-pub at_most_one : (t : Bool) {r : ℕ} → r ≡ cond t 1 0 → r ≤ 1
+pub at_most_one : (t : Bool) {r : ℕ} → r ≡ bool_byte t → r ≤ 1
 at_most_one true e = omega arith
 at_most_one false e = omega arith
 
@@ -90,22 +94,22 @@ module _ (store : ℕ) (out : Event → Bool) (R : List Event) (count : ℕ) (fi
           behind n = record { within = omega arith; stored = further; front = front-past out zero_event R i first at v.front n; counted = more }
 
         -- as the loop counts them, without a branch
-        pub further-on : (t o : Bool) → t ≡ out e → o ≡ (eqb first i && not t) → Passing store out R count (first + cond o 1 0) (taken + cond t 1 0) (i + 1)
+        pub further-on : (t o : Bool) → t ≡ out e → o ≡ (eqb first i && not t) → Passing store out R count (first + bool_byte o) (taken + bool_byte t) (i + 1)
         further-on true o a b = rw (b ∙ and-off (eqb first i), add-zero first) (hit (sym a))
         further-on false o a b = go (eqb first i) refl
           where
-            go : (q : Bool) → eqb first i ≡ q → Passing store out R count (first + cond o 1 0) (taken + 0) (i + 1)
+            go : (q : Bool) → eqb first i ≡ q → Passing store out R count (first + bool_byte o) (taken + 0) (i + 1)
             go true q = rw (b, q, add-zero taken) (in-front (sym a) (eqb-true first i q))
             go false q = rw (b, q, add-zero first, add-zero taken) (behind (sym a) (let l = first-le in let d = eqb-false first i q in omega arith))
 
 -- the answer
 module _ (store : ℕ) (ws : List Window) (l : List ℤ) (count : ℕ) (fit : count ≤ length (rows_of l)) where
-  pub unstored : false ≡ ok_events store l count → ◌≡◌ {A = Seen} (record { ok = false; first = 0; taken = 0 }) (survey_of store ws l count)
+  pub unstored : false ≡ ok_events store l count → ◌≡◌ {A = Result Seen Refusal} (Err OutOfRange) (survey_of store ws l count)
   unfolding survey_of
   unstored e = rw (sym e)
 
   pub ended : (first taken i : ℕ) → Passing store (taken_by_any ws) (rows_of l) count first taken i → count ≤ i
-      → ◌≡◌ {A = Seen} (record { ok = true; first = first; taken = taken }) (survey_of store ws l count)
+      → ◌≡◌ {A = Result Seen Refusal} (Ok (record { first = first; taken = taken })) (survey_of store ws l count)
   unfolding survey_of ok_events
   ended first taken i v past =
       let all : i ≡ count = omega (arith, v.within) in
@@ -115,16 +119,26 @@ module _ (store : ℕ) (ws : List Window) (l : List ℤ) (count : ℕ) (fit : co
       let t : taken ≡ count - length (kept_by_all ws l count) = omega arith in
       rw (ok, f, t)
 
-  module _ (seen : Seen) (e : seen ≡ survey_of store ws l count) where
-    pub ok-is : seen.ok ≡ ok_events store l count
-    unfolding survey_of
-    ok-is = ap (λ (x : Seen). x.ok) e ∙ go (ok_events store l count)
-      where
-        go : (t : Bool) → (cond {A = Seen} t (record { ok = true; first = in_front (taken_by_any ws) (events_of l count); taken = count - length (kept_by_all ws l count) }) (record { ok = false; first = 0; taken = 0 })).ok ≡ t
-        go true = refl
-        go false = refl
+  -- it refuses: some event may not be stored
+  pub refusing : (why : Refusal) → Err why ≡ survey_of store ws l count → (why ≡ OutOfRange) × (ok_events store l count ≡ false)
+  unfolding survey_of
+  refusing why e = go (ok_events store l count) refl e
+    where
+      go : (t : Bool) → ok_events store l count ≡ t
+          → ◌≡◌ {A = Result Seen Refusal} (Err why) (cond t (Ok (record { first = in_front (taken_by_any ws) (events_of l count); taken = count - length (kept_by_all ws l count) })) (Err OutOfRange))
+          → (why ≡ OutOfRange) × (t ≡ false)
+      go true q e = absurd (cc)
+      go false q e = (cc, refl)
 
-    -- every event may be stored: it says where the first is taken, and how many are
-    pub surveyed : seen.ok ≡ true → Surveyed ws l count seen
-    unfolding survey_of
-    surveyed ok = let q : ok_events store l count ≡ true = sym ok-is ∙ ok in record { first = ap (λ (x : Seen). x.first) e ∙ rw q; taken = ap (λ (x : Seen). x.taken) e ∙ rw q }
+  -- it does not: every event may be stored, and it says where the first is taken, and how many are
+  pub surveyed : (seen : Seen) → Ok seen ≡ survey_of store ws l count → (ok_events store l count ≡ true) × Surveyed ws l count seen
+  unfolding survey_of
+  surveyed seen e = go (ok_events store l count) e
+    where
+      go : (t : Bool)
+          → ◌≡◌ {A = Result Seen Refusal} (Ok seen) (cond t (Ok (record { first = in_front (taken_by_any ws) (events_of l count); taken = count - length (kept_by_all ws l count) })) (Err OutOfRange))
+          → (t ≡ true) × Surveyed ws l count seen
+      go true e =
+          let s : seen ≡ record { first = in_front (taken_by_any ws) (events_of l count); taken = count - length (kept_by_all ws l count) } = cc in
+          (refl, record { first = ap (λ (x : Seen). x.first) s; taken = ap (λ (x : Seen). x.taken) s })
+      go false e = absurd (cc)

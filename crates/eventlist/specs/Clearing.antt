@@ -1,9 +1,11 @@
 -- 02, d): windows are taken out of the list in one pass, and "each kept record" moves "at most once" (laws, specs/Moves): what the
 -- test of the records says beforehand, and what is left and was moved.
-use Rattle.std.specs.Prelude.{◌≡◌, Bool, true, false, not, cond, ◌&&◌, List, ℕ, ◌-◌, ℤ, length}
+use Rattle.std.specs.Prelude.{◌≡◌, Bool, true, not, cond, ◌&&◌, List, ℕ, ◌-◌, ℤ, length, Result, Ok, Err}
 use Rattle.std.specs.Int.Signed.{lt_z}
 use Rattle.laws.specs.Lists.{all, without, put_first}
 use Rattle.laws.specs.Moves.{in_front, moves}
+use Rattle.numbers.specs.declared.refusals.Refusal.{Refusal}
+use Rattle.numbers.specs.declared.refusals.Refusal.TheVariants.{OutOfRange}
 use Rattle.events.specs.declared.Event.{Event}
 use Rattle.events.specs.Events.{zero_event}
 use Rattle.eventlist.specs.declared.Cleared.{Cleared}
@@ -43,9 +45,9 @@ module _ (ws : List Window) (l : List ℤ) (count : ℕ) where
   abbrev pub rows_cleared : List Event
   rows_cleared = put_first zero_event count kept_by_all (rows_of l)
 
--- the answer of the pass that tests the records, and finds what is taken
-unfoldable pub survey_of : ℕ → List Window → List ℤ → ℕ → Seen
+-- the answer of the pass that tests the records, and finds what is taken: 4 where one may not be stored
+unfoldable pub survey_of : ℕ → List Window → List ℤ → ℕ → Result Seen Refusal
 survey_of store ws l count =
     cond (ok_events store l count)
-    (record { ok = true; first = in_front (taken_by_any ws) (events_of l count); taken = count - length (kept_by_all ws l count) })
-    (record { ok = false; first = 0; taken = 0 })
+    (Ok (record { first = in_front (taken_by_any ws) (events_of l count); taken = count - length (kept_by_all ws l count) }))
+    (Err OutOfRange)

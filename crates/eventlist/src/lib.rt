@@ -2,20 +2,20 @@
 // events. Each contract speaks of the slice read whole as records (`rows_of`).
 #![tactic(auto)]
 
-ghost use Rattle.std.specs.Prelude.{◌≡◌, cond, [], ◌∷◌, ◌++◌, ◌+◌, ◌≤◌, ◌<◌, length, get_or, set, take, drop};
+ghost use Rattle.std.specs.Prelude.{◌≡◌, [], ◌∷◌, ◌++◌, ◌+◌, ◌≤◌, ◌<◌, MatchResult, length, get_or, set, take, drop};
 ghost use Rattle.std.proofs.Math.Seq.{paste};
-ghost use Rattle.std.specs.Int.Signed.{lt_z};
 ghost use Rattle.laws.specs.Lists.{put_first};
 ghost use Rattle.laws.specs.Moves.{in_front};
+ghost use Rattle.numbers.specs.Refusals.{number_of};
 ghost use Rattle.events.specs.Events.{zero_event};
 ghost use Rattle.eventlist.specs.Rows.{record_width, event_of, numbers_of, rows_of, events_of};
 ghost use Rattle.eventlist.specs.Sound.{is_list, ok_events};
-ghost use Rattle.eventlist.specs.Windows.{taken_by, window_width, window_in, no_window, windows_of, taken_by_any};
+ghost use Rattle.eventlist.specs.Windows.{taken_by, kept_by, taken_by_any};
 ghost use Rattle.eventlist.specs.Clearing.{widened, Covers, survey_of, Surveyed, cleared_by, rows_cleared};
-ghost use Rattle.eventlist.specs.Bends.{bends_taken, bends_left};
+ghost use Rattle.eventlist.specs.Bends.{bends_in, bends_refusal, bends_taken, bends_left};
 
-use events::{CONTROL_CHANGE, Event, PITCH_BEND, event_ok, zero_event};
-use numbers::is_time;
+use events::{CONTROL_CHANGE, Event, PITCH_BEND, event_ok};
+use numbers::{Refusal, ask, is_time};
 
 // The numbers of a record.
 pub const WIDTH: usize = 8;
@@ -42,22 +42,7 @@ fn encode(s: &mut [i64], e: Event)
     requires { length s.old ≡ record_width }
     ensures { s.new ≡ numbers_of e }
 {
-    let kind = e.kind;
-    let time = e.time;
-    let channel = e.channel;
-    let v1 = e.v1;
-    let v2 = e.v2;
-    let v3 = e.v3;
-    let offset = e.offset;
-    let len = e.len;
-    s[0] = kind;
-    s[1] = time;
-    s[2] = channel;
-    s[3] = v1;
-    s[4] = v2;
-    s[5] = v3;
-    s[6] = offset;
-    s[7] = len;
+    s.copy_from_slice(&[e.kind, e.time, e.channel, e.v1, e.v2, e.v3, e.offset, e.len]);
 }
 
 // Record `i`, which is there.
@@ -65,9 +50,8 @@ pub fn read_event(events: &[i64], i: usize) -> Event
     requires { i < length (rows_of events.now) }
     ensures { result ≡ get_or (rows_of events.now) i zero_event }
 {
-    let a = i * WIDTH;
-    let b = a + WIDTH;
-    decode(&events[a..b])
+    let at = i * WIDTH;
+    decode(&events[at..at + WIDTH])
 }
 
 // Makes `e` record `i`, which is there.
@@ -75,9 +59,8 @@ pub fn write_event(events: &mut [i64], i: usize, e: Event)
     requires { i < length (rows_of events.old) }
     ensures { rows_of events.new ≡ set (rows_of events.old) i e }
 {
-    let a = i * WIDTH;
-    let b = a + WIDTH;
-    encode(&mut events[a..b], e);
+    let at = i * WIDTH;
+    encode(&mut events[at..at + WIDTH], e);
 }
 
 // Puts `e` after the `count` events, where there is room, and answers the new count.
@@ -91,6 +74,7 @@ pub fn append(events: &mut [i64], count: usize, e: Event) -> usize
 }
 
 // Whether the slice is a whole number of records, `count` of which are there.
+#[tactic(auto, unfolding(crate::specs::Sound::is_list))]
 pub fn list_ok(events: &[i64], count: usize) -> bool
     ensures { result ≡ is_list events.now count }
 {
@@ -102,12 +86,10 @@ pub fn records_ok(events: &[i64], count: usize, store: usize) -> bool
     requires { count ≤ length (rows_of events.now) }
     ensures { result ≡ ok_events store events.now count }
 {
-    let mut i: usize = 0;
-    while i < count {
+    for i in 0..count {
         if !event_ok(read_event(events, i), store) {
             return false;
         }
-        i += 1;
     }
     true
 }
@@ -131,77 +113,11 @@ pub fn in_window(e: Event, w: Window) -> bool
         & ((w.kind != CONTROL_CHANGE) | (e.v1 == w.number))
 }
 
-// The numbers of a window in a list of windows: kind, number, start, end.
-pub const WINDOW: usize = 4;
-
-// One window as a list of windows.
-pub fn lone_window(w: Window) -> [i64; WINDOW]
-    ensures { windows_of result ≡ w ∷ [] }
-{
-    [w.kind, w.number, w.start, w.end]
-}
-
-// The window that four numbers say.
-fn window_in(s: &[i64]) -> Window
-    requires { length s.now ≡ window_width }
-    ensures { result ≡ window_in s.now }
-{
-    Window {
-        kind: s[0],
-        number: s[1],
-        start: s[2],
-        end: s[3],
-    }
-}
-
-// The four numbers of a window.
-fn set_window(s: &mut [i64], w: Window)
-    requires { length s.old ≡ window_width }
-    ensures { s.new ≡ w.kind ∷ w.number ∷ w.start ∷ w.end ∷ [] }
-{
-    let kind = w.kind;
-    let number = w.number;
-    let start = w.start;
-    let end = w.end;
-    s[0] = kind;
-    s[1] = number;
-    s[2] = start;
-    s[3] = end;
-}
-
-// Makes `w` window `j`, which is there.
-pub fn put_window(windows: &mut [i64], j: usize, w: Window)
-    requires { j < length (windows_of windows.old) }
-    ensures { windows_of windows.new ≡ set (windows_of windows.old) j w }
-{
-    let a = j * WINDOW;
-    let b = a + WINDOW;
-    set_window(&mut windows[a..b], w);
-}
-
-// Window `j`, which is there.
-fn window_at(windows: &[i64], j: usize) -> Window
-    requires { j < length (windows_of windows.now) }
-    ensures { result ≡ get_or (windows_of windows.now) j no_window }
-{
-    let a = j * WINDOW;
-    let b = a + WINDOW;
-    window_in(&windows[a..b])
-}
-
 // Whether some window takes the event out.
-fn any_takes(windows: &[i64], e: Event) -> bool
-    ensures { result ≡ taken_by_any (windows_of windows.now) e }
+fn any_takes(windows: &[Window], e: Event) -> bool
+    ensures { result ≡ taken_by_any windows.now e }
 {
-    let m = windows.len() / WINDOW;
-    let mut j: usize = 0;
-    while j < m {
-        if in_window(e, window_at(windows, j)) {
-            return true;
-        }
-        j += 1;
-    }
-    false
+    windows.iter().any(|w| in_window(e, *w))
 }
 
 // Times from `start` on and before `end`.
@@ -214,111 +130,70 @@ struct Span {
 // Later than every time and end of a window.
 const FAR: i64 = 4611686018427387904;
 
-fn earlier_of(a: i64, b: i64) -> i64
-    ensures { result ≡ cond (lt_z a b) a b }
-{
-    if a < b {
-        return a;
-    }
-    b
-}
-
-fn later_of(a: i64, b: i64) -> i64
-    ensures { result ≡ cond (lt_z a b) b a }
-{
-    if a < b {
-        return b;
-    }
-    a
-}
-
 // The span with a window's times in it too.
 fn widen(s: Span, w: Window) -> Span
     ensures { result ≡ widened s w }
 {
-    let start = earlier_of(w.start, s.start);
-    let end = later_of(s.end, w.end);
     Span {
-        start: start,
-        end: end,
+        start: s.start.min(w.start),
+        end: w.end.max(s.end),
     }
 }
 
 // A span that has the times of all windows in it.
-fn span_of(windows: &[i64]) -> Span
-    ensures { Covers result (windows_of windows.now) }
+fn span_of(windows: &[Window]) -> Span
+    ensures { Covers result windows.now }
 {
-    let m = windows.len() / WINDOW;
     let mut span = Span {
         start: FAR,
         end: -FAR,
     };
-    let mut j: usize = 0;
-    while j < m {
-        span = widen(span, window_at(windows, j));
-        j += 1;
+    for w in windows {
+        span = widen(span, *w);
     }
     span
 }
 
 // Whether some window takes the event out; windows are looked at only where the time lies in their span.
-fn takes(windows: &[i64], span: Span, e: Event) -> bool
-    requires { Covers span (windows_of windows.now) }
-    ensures { result ≡ taken_by_any (windows_of windows.now) e }
+fn takes(windows: &[Window], span: Span, e: Event) -> bool
+    requires { Covers span windows.now }
+    ensures { result ≡ taken_by_any windows.now e }
 {
-    if (e.time < span.start) | (span.end <= e.time) {
-        return false;
-    }
-    any_takes(windows, e)
+    (span.start..span.end).contains(&e.time) && any_takes(windows, e)
 }
 
-// What a pass over the events says before windows are taken out: whether each event may be stored, how many stand in front
-// of the first that is taken, and how many are taken.
+// What a pass over the events says before windows are taken out: how many stand in front of the first that is taken, and how
+// many are taken.
 #[derive(Clone, Copy)]
 pub struct Seen {
-    pub ok: bool,
     pub first: usize,
     pub taken: usize,
 }
 
-fn one_if(yes: bool) -> usize
-    ensures { result ≡ cond yes 1 0 }
-{
-    if yes {
-        return 1;
-    }
-    0
-}
-
-// Goes once over the `count` events, beside a store of `store` bytes. Where one may not be stored it says no more. What is
-// taken is counted without a branch, which no processor could foresee.
-pub fn survey(events: &[i64], count: usize, store: usize, windows: &[i64]) -> Seen
+// Goes once over the `count` events, beside a store of `store` bytes. Refuses 4 where one may not be stored. What is taken is
+// counted without a branch, which no processor could foresee.
+pub fn survey(
+    events: &[i64],
+    count: usize,
+    store: usize,
+    windows: &[Window],
+) -> Result<Seen, Refusal>
     requires { count ≤ length (rows_of events.now) }
-    ensures { result ≡ survey_of store (windows_of windows.now) events.now count }
+    ensures { result ≡ survey_of store windows.now events.now count }
 {
     let span = span_of(windows);
     let mut first: usize = 0;
     let mut taken: usize = 0;
-    let mut i: usize = 0;
-    while i < count {
+    for i in 0..count {
         let e = read_event(events, i);
         if !event_ok(e, store) {
-            return Seen {
-                ok: false,
-                first: 0,
-                taken: 0,
-            };
+            return Err(Refusal::OutOfRange);
         }
         let hit = takes(windows, span, e);
-        taken += one_if(hit);
-        first += one_if((first == i) & !hit);
-        i += 1;
+        taken += usize::from(hit);
+        first += usize::from((first == i) & !hit);
     }
-    Seen {
-        ok: true,
-        first: first,
-        taken: taken,
-    }
+    Ok(Seen { first, taken })
 }
 
 // Moves `n` records from `from` on down to `to`, in order, and answers how many were moved.
@@ -326,13 +201,8 @@ fn move_down(events: &mut [i64], from: usize, to: usize, n: usize) -> usize
     requires { (to < from) × (from + n ≤ length (rows_of events.old)) }
     ensures { (result ≡ n) × (rows_of events.new ≡ paste (rows_of events.old) to (drop from (rows_of events.old)) n) }
 {
-    let mut moved: usize = 0;
-    while moved < n {
-        let e = read_event(events, from + moved);
-        write_event(events, to + moved, e);
-        moved += 1;
-    }
-    moved
+    events.copy_within(from * WIDTH..(from + n) * WIDTH, to * WIDTH);
+    n
 }
 
 // Zeroes the records from `from` on that are below `to`: of the first `to` the first `from` are left.
@@ -340,26 +210,20 @@ pub fn clear_from(events: &mut [i64], from: usize, to: usize)
     requires { (from ≤ to) × (to ≤ length (rows_of events.old)) }
     ensures { rows_of events.new ≡ put_first zero_event to (take from (rows_of events.old)) (rows_of events.old) }
 {
-    let mut k = from;
-    while k < to {
-        write_event(events, k, zero_event());
-        k += 1;
-    }
+    events[from * WIDTH..to * WIDTH].fill(0);
 }
 
 // The place of the next event, from `i` on, that some window takes; the count where there is none.
-fn next_taken(events: &[i64], i: usize, count: usize, windows: &[i64], span: Span) -> usize
-    requires { (i ≤ count) × (count ≤ length (rows_of events.now)) × Covers span (windows_of windows.now) }
-    ensures { result ≡ i + in_front (taken_by_any (windows_of windows.now)) (drop i (events_of events.now count)) }
+fn next_taken(events: &[i64], i: usize, count: usize, windows: &[Window], span: Span) -> usize
+    requires { (i ≤ count) × (count ≤ length (rows_of events.now)) × Covers span windows.now }
+    ensures { result ≡ i + in_front (taken_by_any windows.now) (drop i (events_of events.now count)) }
 {
-    let mut j = i;
-    while j < count {
+    for j in i..count {
         if takes(windows, span, read_event(events, j)) {
             return j;
         }
-        j += 1;
     }
-    j
+    count
 }
 
 // What taking events out leaves: how many are left, and how many of these were moved, that is, written to another place.
@@ -372,13 +236,12 @@ pub struct Cleared {
 // Takes the windows' events out of the `count`, as `seen` by the survey. What is left keeps its order: before the first that is taken
 // nothing moves, and behind it each stretch between two that are taken moves once, the last one without being asked again. The places
 // that fall vacant are zeroed.
-pub fn clear_windows(events: &mut [i64], count: usize, windows: &[i64], seen: Seen) -> Cleared
-    requires { (count ≤ length (rows_of events.old)) × Surveyed (windows_of windows.now) events.old count seen }
-    ensures { (result ≡ cleared_by (windows_of windows.now) events.old count)
-        × (rows_of events.new ≡ rows_cleared (windows_of windows.now) events.old count) }
+pub fn clear_windows(events: &mut [i64], count: usize, windows: &[Window], seen: Seen) -> Cleared
+    requires { (count ≤ length (rows_of events.old)) × Surveyed windows.now events.old count seen }
+    ensures { (result ≡ cleared_by windows.now events.old count)
+        × (rows_of events.new ≡ rows_cleared windows.now events.old count) }
 {
     let first = seen.first;
-    let taken = seen.taken;
     if first == count {
         return Cleared {
             left: count,
@@ -386,22 +249,19 @@ pub fn clear_windows(events: &mut [i64], count: usize, windows: &[i64], seen: Se
         };
     }
     let span = span_of(windows);
-    let mut i = first + 1;
     let mut n = first;
     let mut moved: usize = 0;
-    while i - n < taken {
+    for gone in 1..seen.taken {
+        let i = n + gone;
         let next = next_taken(events, i, count, windows, span);
         moved += move_down(events, i, n, next - i);
         n += next - i;
-        i = next + 1;
     }
+    let i = n + seen.taken;
     moved += move_down(events, i, n, count - i);
     n += count - i;
     clear_from(events, n, count);
-    Cleared {
-        left: n,
-        moved: moved,
-    }
+    Cleared { left: n, moved }
 }
 
 // What a call that takes events out answers: its number, and the count of the list afterwards.
@@ -410,6 +270,31 @@ pub fn clear_windows(events: &mut [i64], count: usize, windows: &[i64], seen: Se
 pub struct Taken {
     pub code: u32,
     pub count: usize,
+}
+
+// The same call's new count, beside a store of `store` bytes.
+fn take_bends(
+    events: &mut [i64],
+    count: usize,
+    start: i64,
+    end: i64,
+    store: usize,
+) -> Result<usize, Refusal>
+    ensures answer { MatchResult result
+        (λ left. (bends_refusal store events.old count start end ≡ 0) × (left ≡ length (kept_by (bends_in start end) events.old count)))
+        (λ why. bends_refusal store events.old count start end ≡ number_of why) }
+    ensures list { events.new ≡ bends_left store events.old count start end }
+{
+    ask(list_ok(events, count), Refusal::NotAList)?;
+    ask(is_time(start) & is_time(end), Refusal::OutOfRange)?;
+    let windows = [Window {
+        kind: PITCH_BEND,
+        number: 0,
+        start,
+        end: end + 1,
+    }];
+    let seen = survey(events, count, store, &windows)?;
+    Ok(clear_windows(events, count, &windows, seen).left)
 }
 
 // Takes out the bends from `start` to `end`, that time included. Answers the new count; the others keep their order,
@@ -424,36 +309,14 @@ pub fn remove_pitch_bend_in_range(
     ensures { (result ≡ bends_taken (length store.now) events.old count start end)
         × (events.new ≡ bends_left (length store.now) events.old count start end) }
 {
-    if !list_ok(events, count) {
-        return Taken {
-            code: 1,
-            count: count,
-        };
-    }
-    if !(is_time(start) & is_time(end)) {
-        return Taken {
-            code: 4,
-            count: count,
-        };
-    }
-    let past = end + 1;
-    let w = Window {
-        kind: PITCH_BEND,
-        number: 0,
-        start: start,
-        end: past,
-    };
-    let windows = lone_window(w);
-    let seen = survey(events, count, store.len(), &windows);
-    if !seen.ok {
-        return Taken {
-            code: 4,
-            count: count,
-        };
-    }
-    let done = clear_windows(events, count, &windows, seen);
-    Taken {
-        code: 0,
-        count: done.left,
+    match take_bends(events, count, start, end, store.len()) {
+        Ok(left) => Taken {
+            code: 0,
+            count: left,
+        },
+        Err(refusal) => Taken {
+            code: refusal.number(),
+            count,
+        },
     }
 }

@@ -2,16 +2,17 @@
 // lent beside it and never written; of the store only the length is asked.
 // The constructors of `Event` and its size are what a product calls: each tests its own numbers. Their namesakes
 // that end in `_event` make the event alone, for callers that know the numbers.
-#![tactic(auto)]
+#![tactic(auto, unfolding(crate::specs::Kinds::is_kind, crate::specs::Kinds::has_data, crate::specs::Kinds::bytes_of, crate::specs::Events::ok_numbered, crate::specs::Events::is_stretch, crate::specs::Events::ok_data, crate::specs::Events::ok_event, laws::specs::Integers::inside))]
 
 ghost use Rattle.std.specs.Prelude.{◌≡◌, length};
 ghost use Rattle.laws.specs.Integers.{cut};
-ghost use Rattle.events.specs.Kinds.{is_kind, has_data, bytes_of};
+ghost use Rattle.numbers.specs.Refusals.{number_of};
+ghost use Rattle.events.specs.Kinds.{Reads, is_kind, has_data, bytes_of};
 ghost use Rattle.events.specs.Events.{zero_event, note_event, voice_event, cc_event, pitch_bend_event, pitch_bend_range_event, meta_event, direct_smf_event, sysex_event, ok_numbered, is_stretch, ok_data, ok_plain, ok_event, refused, made, made_cc, size_of};
 
-use numbers::{is_channel, is_controller, is_event_time, is_word, within};
+use numbers::{Refusal, is_channel, is_controller, is_event_time, is_word};
 
-// The kinds, in the Rust's order.
+// The kinds, in the Rust's order: a record holds the number, which a caller in C reads and writes.
 pub const NOTE_ON: i64 = 0;
 
 pub const NOTE_OFF: i64 = 1;
@@ -29,6 +30,42 @@ pub const META: i64 = 6;
 pub const SYS_EX: i64 = 7;
 
 pub const DIRECT_SMF: i64 = 8;
+
+// A kind as code that switches on it reads it.
+#[derive(Clone, Copy, Debug, PartialEq, Eq)]
+pub enum Kind {
+    NoteOn,
+    NoteOff,
+    ControlChange,
+    PitchBend,
+    PitchBendRange,
+    Voice,
+    Meta,
+    SysEx,
+    DirectSmf,
+}
+
+impl TryFrom<i64> for Kind {
+    type Error = Refusal;
+
+    ghost try_from_gives = { Reads };
+
+    // The kind that a record's number says. Refuses 4 a number that is none's.
+    fn try_from(kind: i64) -> Result<Self, Refusal> {
+        match kind {
+            NOTE_ON => Ok(Kind::NoteOn),
+            NOTE_OFF => Ok(Kind::NoteOff),
+            CONTROL_CHANGE => Ok(Kind::ControlChange),
+            PITCH_BEND => Ok(Kind::PitchBend),
+            PITCH_BEND_RANGE => Ok(Kind::PitchBendRange),
+            VOICE => Ok(Kind::Voice),
+            META => Ok(Kind::Meta),
+            SYS_EX => Ok(Kind::SysEx),
+            DIRECT_SMF => Ok(Kind::DirectSmf),
+            _ => Err(Refusal::OutOfRange),
+        }
+    }
+}
 
 #[repr(C)]
 #[derive(Clone, Copy)]
@@ -80,13 +117,12 @@ pub fn note_event(time: i64, channel: i64, number: i64, len: i64, vel: i64) -> E
 {
     Event {
         kind: NOTE_ON,
-        time: time,
-        channel: channel,
+        time,
+        channel,
         v1: number,
         v2: len,
         v3: vel,
-        offset: 0,
-        len: 0,
+        ..zero_event()
     }
 }
 
@@ -95,13 +131,10 @@ pub fn voice_event(time: i64, channel: i64, value: i64) -> Event
 {
     Event {
         kind: VOICE,
-        time: time,
-        channel: channel,
+        time,
+        channel,
         v1: value,
-        v2: 0,
-        v3: 0,
-        offset: 0,
-        len: 0,
+        ..zero_event()
     }
 }
 
@@ -110,13 +143,11 @@ pub fn cc_event(time: i64, channel: i64, number: i64, value: i64) -> Event
 {
     Event {
         kind: CONTROL_CHANGE,
-        time: time,
-        channel: channel,
+        time,
+        channel,
         v1: number,
         v2: value,
-        v3: 0,
-        offset: 0,
-        len: 0,
+        ..zero_event()
     }
 }
 
@@ -125,13 +156,10 @@ pub fn pitch_bend_event(time: i64, channel: i64, value: i64) -> Event
 {
     Event {
         kind: PITCH_BEND,
-        time: time,
-        channel: channel,
+        time,
+        channel,
         v1: value,
-        v2: 0,
-        v3: 0,
-        offset: 0,
-        len: 0,
+        ..zero_event()
     }
 }
 
@@ -140,13 +168,10 @@ pub fn pitch_bend_range_event(time: i64, channel: i64, value: i64) -> Event
 {
     Event {
         kind: PITCH_BEND_RANGE,
-        time: time,
-        channel: channel,
+        time,
+        channel,
         v1: value,
-        v2: 0,
-        v3: 0,
-        offset: 0,
-        len: 0,
+        ..zero_event()
     }
 }
 
@@ -155,13 +180,13 @@ pub fn meta_event(time: i64, v1: i64, v2: i64, v3: i64, offset: i64, len: i64) -
 {
     Event {
         kind: META,
-        time: time,
-        channel: 0,
-        v1: v1,
-        v2: v2,
-        v3: v3,
-        offset: offset,
-        len: len,
+        time,
+        v1,
+        v2,
+        v3,
+        offset,
+        len,
+        ..zero_event()
     }
 }
 
@@ -170,13 +195,10 @@ pub fn direct_smf_event(time: i64, offset: i64, len: i64) -> Event
 {
     Event {
         kind: DIRECT_SMF,
-        time: time,
-        channel: 0,
-        v1: 0,
-        v2: 0,
-        v3: 0,
-        offset: offset,
-        len: len,
+        time,
+        offset,
+        len,
+        ..zero_event()
     }
 }
 
@@ -185,13 +207,10 @@ pub fn sysex_event(time: i64, offset: i64, len: i64) -> Event
 {
     Event {
         kind: SYS_EX,
-        time: time,
-        channel: 0,
-        v1: 0,
-        v2: 0,
-        v3: 0,
-        offset: offset,
-        len: len,
+        time,
+        offset,
+        len,
+        ..zero_event()
     }
 }
 
@@ -199,44 +218,34 @@ pub fn sysex_event(time: i64, offset: i64, len: i64) -> Event
 fn is_kind(kind: i64) -> bool
     ensures { result ≡ is_kind kind }
 {
-    within(NOTE_ON, kind, DIRECT_SMF)
+    Kind::try_from(kind).is_ok()
 }
 
 // Whether events of this kind have data.
 pub fn has_data(kind: i64) -> bool
     ensures { result ≡ has_data kind }
 {
-    match kind {
-        META | SYS_EX | DIRECT_SMF => true,
-        _ => false,
-    }
+    matches!(
+        Kind::try_from(kind),
+        Ok(Kind::Meta | Kind::SysEx | Kind::DirectSmf)
+    )
 }
 
 // Whether the number of an event, if it is a controller's, is one.
 fn numbered_ok(e: Event) -> bool
     ensures { result ≡ ok_numbered e }
 {
-    if e.kind == CONTROL_CHANGE {
-        return is_controller(e.v1);
-    }
-    true
+    e.kind != CONTROL_CHANGE || is_controller(e.v1)
 }
 
 // Whether `len` bytes from `offset` on lie inside a store of `store` bytes.
 fn is_stretch(offset: i64, len: i64, store: usize) -> bool
     ensures { result ≡ is_stretch store offset len }
 {
-    if offset < 0 {
-        return false;
+    match (usize::try_from(offset), usize::try_from(len)) {
+        (Ok(from), Ok(size)) => from.checked_add(size).is_some_and(|end| end <= store),
+        _ => false,
     }
-    if len < 0 {
-        return false;
-    }
-    let size = len as usize;
-    if store < size {
-        return false;
-    }
-    offset as usize <= store - size
 }
 
 // Whether an event has the data that its kind allows: no bytes at the store's start are asked no further, as most events have
@@ -244,13 +253,7 @@ fn is_stretch(offset: i64, len: i64, store: usize) -> bool
 fn data_ok(e: Event, store: usize) -> bool
     ensures { result ≡ ok_data store e }
 {
-    if (e.offset == 0) & (e.len == 0) {
-        return true;
-    }
-    if has_data(e.kind) {
-        return is_stretch(e.offset, e.len, store);
-    }
-    false
+    (e.offset == 0) & (e.len == 0) || has_data(e.kind) && is_stretch(e.offset, e.len, store)
 }
 
 // Whether an event's numbers, but for its data, may be stored.
@@ -270,40 +273,33 @@ fn plain_ok(e: Event) -> bool
 pub fn event_ok(e: Event, store: usize) -> bool
     ensures { result ≡ ok_event store e }
 {
-    if !plain_ok(e) {
-        return false;
-    }
-    data_ok(e, store)
+    plain_ok(e) && data_ok(e, store)
 }
 
 // A length of data as a count of bytes.
 fn data_bytes(len: i64) -> usize
     ensures { result ≡ cut len }
 {
-    if len < 0 {
-        return 0;
-    }
-    len as usize
+    usize::try_from(len).unwrap_or(0)
 }
 
 // The bytes that an event counts in the budget.
 pub fn bytes_of(e: Event) -> usize
     ensures { result ≡ bytes_of e.kind e.len }
 {
-    let kind = e.kind;
-    match kind {
-        NOTE_ON | PITCH_BEND_RANGE => 16,
-        META | SYS_EX => 12 + data_bytes(e.len),
-        DIRECT_SMF => 8 + data_bytes(e.len),
+    match Kind::try_from(e.kind) {
+        Ok(Kind::NoteOn | Kind::PitchBendRange) => 16,
+        Ok(Kind::Meta | Kind::SysEx) => 12 + data_bytes(e.len),
+        Ok(Kind::DirectSmf) => 8 + data_bytes(e.len),
         _ => 8,
     }
 }
 
-fn refuse(code: u32) -> Made
-    ensures { result ≡ refused code }
+fn refuse(why: Refusal) -> Made
+    ensures { result ≡ refused (number_of why) }
 {
     Made {
-        code: code,
+        code: why.number(),
         event: zero_event(),
     }
 }
@@ -313,9 +309,10 @@ fn tested(e: Event, store: usize) -> Made
     ensures { result ≡ made store e }
 {
     if event_ok(e, store) {
-        return Made { code: 0, event: e };
+        Made { code: 0, event: e }
+    } else {
+        refuse(Refusal::OutOfRange)
     }
-    refuse(4)
 }
 
 impl Event {
@@ -338,9 +335,10 @@ impl Event {
         ensures { result ≡ made_cc time channel number value }
     {
         if is_controller(number) {
-            return tested(cc_event(time, channel, number, value), 0);
+            tested(cc_event(time, channel, number, value), 0)
+        } else {
+            refuse(Refusal::NoTarget)
         }
-        refuse(2)
     }
 
     // A bend. Refuses 4.
@@ -383,11 +381,15 @@ impl Event {
         ensures { result ≡ size_of (length store.now) self }
     {
         if event_ok(self, store.len()) {
-            return Size {
+            Size {
                 code: 0,
                 bytes: bytes_of(self),
-            };
+            }
+        } else {
+            Size {
+                code: Refusal::OutOfRange.number(),
+                bytes: 0,
+            }
         }
-        Size { code: 4, bytes: 0 }
     }
 }

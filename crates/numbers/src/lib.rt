@@ -1,7 +1,7 @@
 // The numbers that a caller may hand in, and the two things that a write does to one: it limits it to a range
 // and spreads it by random. Each range of document 01 has one test here, both ends included; callers test
 // before they store or compute, so that nothing further in needs a `requires`.
-#![tactic(auto)]
+#![tactic(auto, unfolding(crate::specs::Ranges::is_time, crate::specs::Ranges::is_stored_time, crate::specs::Ranges::is_event_time, crate::specs::Ranges::is_number, crate::specs::Ranges::is_length, crate::specs::Ranges::is_random, crate::specs::Ranges::is_sine_end, crate::specs::Ranges::is_controller, crate::specs::Ranges::is_bend, crate::specs::Ranges::is_target, crate::specs::Ranges::is_channel, crate::specs::Ranges::is_timebase, crate::specs::Ranges::is_word, crate::specs::Ranges::is_bytes, laws::specs::Integers::sized))]
 
 mod refusals;
 
@@ -17,27 +17,21 @@ pub use refusals::{Refusal, ask, code_of};
 pub fn value_range(low: i64, v: i64, high: i64) -> i64
     ensures { result ≡ range_of low v high }
 {
+    // No `clamp`: that asks that `low` is not above `high`.
     if v < low {
-        return low;
+        low
+    } else if v > high {
+        high
+    } else {
+        v
     }
-    if v > high {
-        return high;
-    }
-    v
 }
 
 // Whether `z` is from `low` to `high`.
 pub fn within(low: i64, z: i64, high: i64) -> bool
     ensures { result ≡ inside low high z }
 {
-    (low <= z) & (z <= high)
-}
-
-// The same of the narrower numbers.
-pub fn within_i32(low: i32, z: i32, high: i32) -> bool
-    ensures { result ≡ inside low high z }
-{
-    (low <= z) & (z <= high)
+    (low..=high).contains(&z)
 }
 
 // A time, a cut or an `until`: within ±2^40.
@@ -66,14 +60,14 @@ pub fn is_event_time(z: i64) -> bool
 pub fn is_number(z: i32) -> bool
     ensures { result ≡ is_number z }
 {
-    within_i32(-4194304, z, 4194304)
+    within(-4194304, i64::from(z), 4194304)
 }
 
 // A length of a curve, wave, cycle or sine, a sine's times, a delay, a frequency: within ±2^20.
 pub fn is_length(z: i32) -> bool
     ensures { result ≡ is_length z }
 {
-    within_i32(-1048576, z, 1048576)
+    within(-1048576, i64::from(z), 1048576)
 }
 
 // A random width: at most 2^20, with no lower end.
@@ -87,27 +81,27 @@ pub fn is_random(z: i32) -> bool
 pub fn is_sine_end(z: i32) -> bool
     ensures { result ≡ is_sine_end z }
 {
-    within_i32(-16383, z, 16383)
+    within(-16383, i64::from(z), 16383)
 }
 
 // The code of a target: a controller, 128 for bend 0, 129 for bend 1.
 pub fn is_target(z: i32) -> bool
     ensures { result ≡ is_target z }
 {
-    within_i32(0, z, 129)
+    within(0, i64::from(z), 129)
 }
 
 pub fn is_timebase(z: i32) -> bool
     ensures { result ≡ is_timebase z }
 {
-    within_i32(1, z, 32767)
+    within(1, i64::from(z), 32767)
 }
 
 // A track's channel.
 pub fn channel_ok(z: i32) -> bool
     ensures { result ≡ is_channel z }
 {
-    within_i32(0, z, 15)
+    is_channel(i64::from(z))
 }
 
 // An event's channel, controller number, and v1 to v3: an event holds i64.
@@ -158,8 +152,9 @@ pub fn spread(v: i64, width: i64, y: u32) -> i64
     ensures { result ≡ spread v width y }
 {
     if width <= 0 {
-        return v;
+        v
+    } else {
+        let r = i64::from(y) % width - width / 2;
+        v + r
     }
-    let r = (y as i64) % width - width / 2;
-    v + r
 }

@@ -7,7 +7,7 @@ use cutting::{full_cut, play_from};
 use desk::lending::{handed, numbers_in};
 use desk::{Called, Desk, answered, with_count, with_split};
 use eventlist::{
-    Taken, WIDTH, Window, append, clear_windows, list_ok, lone_window, read_event, records_ok,
+    Taken, WIDTH, Window, append, clear_windows, list_ok, read_event, records_ok,
     remove_pitch_bend_in_range, survey,
 };
 use events::{CONTROL_CHANGE, Event, PITCH_BEND, event_ok};
@@ -106,13 +106,10 @@ fn remove(own: usize, count: usize, w: Window, events: &mut [i64], store: &[u8])
     if !(is_time(w.start) & is_time(w.end)) {
         return of_list(refusal(4), own);
     }
-    let windows = lone_window(w);
-    let seen = survey(events, count, store.len(), &windows);
-    if !seen.ok {
-        return of_list(refusal(4), own);
+    match survey(events, count, store.len(), &[w]) {
+        Ok(seen) => of_list(done(), clear_windows(events, count, &[w], seen).left),
+        Err(why) => of_list(refusal(why.number()), own),
     }
-    let cleared = clear_windows(events, count, &windows, seen);
-    of_list(done(), cleared.left)
 }
 
 // 306.

@@ -25,10 +25,11 @@ pub fn letters_at(tape: &[u8], at: usize) -> u32
 }
 
 // Whether a list may have n numbers.
+#[tactic(auto, unfolding(crate::specs::Records::is_count_by))]
 pub fn is_count(n: i32) -> bool
     ensures { result ≡ is_count n }
 {
-    numbers::within_i32(0, n, LIST_LIMIT as i32)
+    numbers::within(0, i64::from(n), LIST_LIMIT as i64)
 }
 
 // n as a count: none below 0.

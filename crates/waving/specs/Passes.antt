@@ -7,7 +7,7 @@ use Rattle.budget.specs.declared.Budget.{Budget}
 use Rattle.counted.specs.Numbers.{shown}
 use Rattle.events.specs.declared.Event.{Event}
 use Rattle.eventlist.specs.declared.Window.{Window}
-use Rattle.eventlist.specs.Windows.{window_width, windows_of, taken_by}
+use Rattle.eventlist.specs.Windows.{taken_by}
 use Rattle.values.specs.Value.{Ready}
 use Rattle.offers.specs.declared.Piece.{Piece}
 use Rattle.offers.specs.Rules.{flagged}
@@ -84,11 +84,11 @@ pub record Drafts (r : Draft) (d : Drawing) (b : Budget) : Type 0 where
 abbrev pub figure_limit : ℕ
 figure_limit = 2 * places
 
--- a plan has the windows, as numbers, and counts the events
+-- a plan has the windows, and counts the events
 pub record Plans (r : Plan) (p : Passes) : Type 0 where
   pub few : r.count ≤ figure_limit
-  pub long : length r.windows ≡ figure_limit * window_width
-  pub windows : windows_of (take (r.count * window_width) r.windows) ≡ p.windows
+  pub long : length r.windows ≡ figure_limit
+  pub windows : take r.count r.windows ≡ p.windows
   pub added : r.added ≡ length p.news
 
 -- an event may not be stored: nothing is written

@@ -29,7 +29,7 @@ ghost use Rattle.waving.specs.Passes.{passes, Held, Drawable, Drafts, Plans, eve
 use budget::{Budget, budget_ok};
 use counted::Numbers;
 use drawing::write_of;
-use eventlist::{WINDOW, clear_windows, list_ok, put_window, survey};
+use eventlist::{Window, clear_windows, list_ok, survey};
 use numbers::is_time;
 use offers::Mode;
 use sines::SineType;
@@ -41,8 +41,13 @@ use writing::{Figure, Outcome};
 // As many waves and sines as a track may have.
 const FIGURES: usize = 32;
 
-// The numbers of their windows.
-const ROOM: usize = FIGURES * WINDOW;
+// What stands at a place that has no window.
+const NONE: Window = Window {
+    kind: 0,
+    number: 0,
+    start: 0,
+    end: 0,
+};
 
 // A wave or a sine made ready for a note; `numbers` is the wave's list.
 #[derive(Clone, Copy)]
@@ -52,11 +57,11 @@ struct Draft {
     numbers: Numbers,
 }
 
-// What a call will do: the windows that are taken out, `count` of them, as numbers, and how many events are added.
+// What a call will do: the windows that are taken out, the first `count`, and how many events are added.
 #[derive(Clone, Copy)]
 struct Plan {
     count: usize,
-    windows: [i64; ROOM],
+    windows: [Window; FIGURES],
     added: usize,
 }
 
@@ -165,15 +170,14 @@ fn plan_of(track: Track, n: u64, b: Budget, quarter: &[u32; 1025]) -> Plan
     requires { Held track × (b.maximum ≤ 2 ^ 26) × (quarter.now ≡ quarter_table) }
     ensures { Plans result (passes (drawings_of track n) b) }
 {
-    let mut windows: [i64; ROOM] = [0; ROOM];
+    let mut windows = [NONE; FIGURES];
     let total = track.waves.count + track.sines.count;
     let mut rest = b;
     let mut i: usize = 0;
     while (i < total) & (rest.over == 0) {
         let d = draft_at(track, n, rest, i);
         let figure = d.figure;
-        let w = writing::figure_window(d.write, figure);
-        put_window(&mut windows, i, w);
+        windows[i] = writing::figure_window(d.write, figure);
         rest = foresee_draft(d, rest, quarter);
         i += 1;
     }
@@ -232,16 +236,17 @@ fn write_all(
 {
     let quarter = sines::table::quarter_table();
     let plan = plan_of(track, n, b, &quarter);
-    let windows = plan.windows;
-    let used = plan.count * WINDOW;
-    let seen = survey(events, count, store, &windows[..used]);
-    if !seen.ok {
-        return Outcome {
-            code: 4,
-            count: count,
-            budget: b,
-        };
-    }
+    let windows = &plan.windows[..plan.count];
+    let seen = match survey(events, count, store, windows) {
+        Ok(seen) => seen,
+        Err(refusal) => {
+            return Outcome {
+                code: refusal.number(),
+                count,
+                budget: b,
+            };
+        }
+    };
     let kept = count - seen.taken;
     if events.len() / 8 - kept < plan.added {
         return Outcome {
@@ -250,7 +255,7 @@ fn write_all(
             budget: b,
         };
     }
-    let cleared = clear_windows(events, count, &windows[..used], seen);
+    let cleared = clear_windows(events, count, windows, seen);
     add_all(track, n, b, events, cleared.left, &quarter)
 }
 

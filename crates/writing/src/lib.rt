@@ -9,7 +9,6 @@ ghost use Rattle.std.specs.Int.Signed.{mag};
 ghost use Rattle.sines.specs.Table.{quarter_table};
 ghost use Rattle.budget.specs.Budgets.{step_budget};
 ghost use Rattle.eventlist.specs.Rows.{rows_of};
-ghost use Rattle.eventlist.specs.Windows.{windows_of};
 ghost use Rattle.eventlist.specs.Clearing.{Surveyed};
 ghost use Rattle.values.specs.Value.{Ready};
 ghost use Rattle.offers.specs.Rules.{rule_of, flagged};
@@ -307,12 +306,12 @@ fn write_core(
     numbers: &[i32],
     events: &mut [i64],
     count: usize,
-    windows: &[i64],
+    windows: &[Window],
     seen: Seen,
     quarter: &[u32; 1025],
 ) -> Outcome
     requires ready { Ready w × Asked (triples numbers.now) origin × (quarter.now ≡ quarter_table) × (long ≡ total (pieces_of (triples numbers.now) origin)) × (count ≤ length (rows_of events.old)) }
-    requires windows_value { (windows_of windows.now ≡ window_of w long ∷ []) × Surveyed (windows_of windows.now) events.old count seen }
+    requires windows_value { (windows.now ≡ window_of w long ∷ []) × Surveyed windows.now events.old count seen }
     ensures { (result ≡ outcome_for w b (pieces_of (triples numbers.now) origin) (rows_of events.old) count)
         × (rows_of events.new ≡ rows_for w b (pieces_of (triples numbers.now) origin) (rows_of events.old) count) }
 {
@@ -357,19 +356,17 @@ fn write_tested(
     ensures { (result ≡ outcome_tested store w b (pieces_of (triples numbers.now) origin) events.old count)
         × (rows_of events.new ≡ rows_tested store w b (pieces_of (triples numbers.now) origin) events.old count) }
 {
-    let window = window_of(w, long);
-    let windows = eventlist::lone_window(window);
-    let seen = eventlist::survey(events, count, store, &windows);
-    if !seen.ok {
-        return Outcome {
-            code: 4,
-            count: count,
+    let windows = [window_of(w, long)];
+    match eventlist::survey(events, count, store, &windows) {
+        Ok(seen) => write_core(
+            w, b, origin, long, numbers, events, count, &windows, seen, quarter,
+        ),
+        Err(refusal) => Outcome {
+            code: refusal.number(),
+            count,
             budget: b,
-        };
+        },
     }
-    write_core(
-        w, b, origin, long, numbers, events, count, &windows, seen, quarter,
-    )
 }
 
 // A count of turns or of steps, which is never 0.

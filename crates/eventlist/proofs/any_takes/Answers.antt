@@ -1,48 +1,19 @@
--- `any_takes` meets its contract: none of the windows passed takes the event, so that those left decide (laws of Tests).
-use mathlib.Core.Bool.{Bool, not}
-use mathlib.Core.Path.{◌≡◌, refl, sym, ap, ◌∙◌}
-use native.Mathlib.Omega.{arith}
-use Rattle.laws.proofs.Tests.{passed, failed, ended, any-all}
+-- `any_takes` meets its contract: the library's word for some element is ours.
+use Rattle.std.proofs.Common.{rules, tests, ◌≡◌, refl, ap, ◌∙◌, Bool, ◌||◌, List, [], ◌∷◌}
+use Rattle.std.proofs.lemmas.Iterator.{YieldsList-from_slice}
+use Rattle.std.proofs.lemmas.Iterator.Search.{any_from_yields_List}
+use Rattle.std.specs.List.{list_any}
+use Rattle.laws.specs.Lists.{any}
 use Rattle.eventlist.specs.declared.Window.{Window}
-use Rattle.events.specs.declared.Event.{Event}
-use Rattle.eventlist.specs.Windows.{taken_by, windows_of, no_window}
-use Rattle.eventlist.proofs.WindowRows.{length-windows_of}
-use Rattle.eventlist.proofs.any_takes.Invariants.{leaves}
+use Rattle.eventlist.specs.Windows.{taken_by}
 use Rattle.eventlist.proofs.any_takes.Goals as goal
 
--- what the test r of a window w says of it
-asked : (e : Event) {w v : Window} {r : Bool} (t : Bool) → w ≡ v → r ≡ taken_by w e → r ≡ t → leaves e v ≡ not t
-asked e t p q h = ap (leaves e) (sym p) ∙ ap not (sym q ∙ h)
-
-pub loop-j-init : goal.loop-j-init
-loop-j-init c = (omega arith, refl)
-
-pub window_at-requires : goal.window_at-requires
-window_at-requires c = omega (arith, length-windows_of c.args.windows.now)
-
-pub returns-then-in_window : goal.returns-then-in_window
-returns-then-in_window c =
-    let ws = windows_of c.args.windows.now in
-    let n = length-windows_of c.args.windows.now in
-    ap not (failed (leaves c.args.e) ws c.loop-j.j no_window (omega arith) (asked c.args.e _ c.window_at.ensures c.in_window.ensures c.if-in_window.true) c.loop-j.invariant.1)
-    ∙ any-all (λ w. taken_by w c.args.e) ws
-
-pub overflow_add-j : goal.overflow_add-j
-overflow_add-j c = omega arith
-
-pub loop-j-smaller : goal.loop-j-smaller
-loop-j-smaller c = omega arith
-
-pub loop-j-preserved : goal.loop-j-preserved
-loop-j-preserved c =
-    let n = length-windows_of c.args.windows.now in (
-      omega arith,
-      passed (leaves c.args.e) (windows_of c.args.windows.now) c.loop-j.j no_window (omega arith) (asked c.args.e _ c.window_at.ensures c.in_window.ensures c.if-in_window.false) c.loop-j.invariant.1,
-    )
+same : (p : Window → Bool) (ws : List Window) → list_any p ws ≡ any p ws
+unfolding any
+same p [] = refl
+same p (w ∷ ws) = ap (λ (t : Bool). p w || t) (same p ws)
 
 pub returns : goal.returns
 returns c =
-    let ws = windows_of c.args.windows.now in
-    let n = length-windows_of c.args.windows.now in
-    ap not (ended (leaves c.args.e) ws c.loop-j.j (omega arith) c.loop-j.invariant.1)
-    ∙ any-all (λ w. taken_by w c.args.e) ws
+    any_from_yields_List (λ (w : Window). taken_by w c.args.e) _ _ _ c.any.ensures.ran (YieldsList-from_slice c.args.windows.now cc) (λ x b q k. search (rules, tests))
+    ∙ same (λ w. taken_by w c.args.e) c.args.windows.now

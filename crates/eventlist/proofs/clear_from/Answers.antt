@@ -1,46 +1,35 @@
--- `clear_from` meets its contract: records `from` to k are cleared (`Clearing`), and one more at each turn.
-use mathlib.Core.Path.{◌≡◌, ap, ◌∙◌}
-use native.Mathlib.Omega.{arith}
-use lib.ListN.{length, set, take}
-use lib.Seq.{length-take-le}
-use Rattle.laws.proofs.Compact.{cleared, cleared-put}
-use Rattle.laws.proofs.Taking.{clear_none, clear-more}
-use Rattle.events.specs.declared.Event.{Event}
-use Rattle.events.specs.Events.{zero_event}
-use Rattle.eventlist.specs.Rows.{rows_of}
-use Rattle.eventlist.proofs.EventRows.{same_rows}
+-- `clear_from` meets its contract: the part that is filled is records of zeros (`zero_rows`), put back where it was lent.
+use Rattle.std.proofs.Common.{◌≡◌, ap, ◌∙◌, ◌+◌, ℕ, ◌-◌, ◌*◌, ◌≤◌, max, pos, length, take, replicate, arith}
+use lib.ListN.{length-replicate}
+use Rattle.std.proofs.Math.Seq.{length-take-le, drop-drop}
+use Rattle.eventlist.specs.Rows.{rows_of, record_width}
+use Rattle.eventlist.proofs.EventRows.{length-rows_of, put-rows, part-long, zero_rows}
 use Rattle.eventlist.proofs.clear_from.Goals as goal
 
--- as many records as at entry
-rows_at : (c : goal.After-zero_event) → length (rows_of c.loop-k.events) ≡ length (rows_of c.args.events.now)
-rows_at c = same_rows c.loop-k.events c.args.events.now c.loop-k.invariant.long
+pub overflow_mul-from : goal.overflow_mul-from
+overflow_mul-from c = omega (arith, c.requires.0, c.requires.1, length-rows_of c.args.events.now)
 
-pub loop-k-init : goal.loop-k-init
-loop-k-init c = clear_none rows_of zero_event c.args.events.now c.args.to c.args.from c.requires.0 (omega arith)
+pub overflow_mul-to : goal.overflow_mul-to
+overflow_mul-to c = omega (arith, c.requires.1, length-rows_of c.args.events.now)
 
-pub write_event-requires : goal.write_event-requires
-write_event-requires c = omega (arith, rows_at c)
+pub offset_bounds-events-from : goal.offset_bounds-events-from
+offset_bounds-events-from c = omega (arith, c.requires.0, c.requires.1, length-rows_of c.args.events.now)
 
-pub overflow_add-k : goal.overflow_add-k
-overflow_add-k c = omega arith
-
-pub loop-k-smaller : goal.loop-k-smaller
-loop-k-smaller c = omega arith
-
-pub loop-k-preserved : goal.loop-k-preserved
-loop-k-preserved c =
-    clear-more rows_of zero_event c.args.events.now c.loop-k.events c.write_event.new.events c.args.to c.args.from c.loop-k.k c.loop-k.invariant (omega arith) c.requires.1
-    c.write_event.auto.events
-    (c.write_event.ensures ∙ ap (λ (e : Event). set (rows_of c.loop-k.events) c.loop-k.k e) c.zero_event.ensures)
-
-pub shape_of-events : goal.shape_of-events
-shape_of-events c = c.loop-k.invariant.long
+pub slice_bounds-fill-end : goal.slice_bounds-fill-end
+slice_bounds-fill-end c = omega (arith, c.requires.1, length-rows_of c.args.events.now)
 
 pub returns : goal.returns
 returns c =
-    let l = rows_of c.args.events.now in
-    let p = take c.args.from l in
-    let long = length-take-le c.args.from l (omega arith) in
-    let all : c.loop-k.k ≡ c.args.to = omega arith in
-    let e : rows_of c.loop-k.events ≡ cleared zero_event l p c.args.to = rw all at c.loop-k.invariant.sofar in
-    e ∙ cleared-put zero_event l p c.args.to (omega arith)
+    let l = c.args.events.now in
+    let from = c.args.from in
+    let to = c.args.to in
+    let n = to - from in
+    let s = to * record_width - from * record_width in
+    let whole : s ≡ n * record_width = omega arith in
+    let inside : from * record_width + n * record_width ≤ length l = omega (arith, c.requires.0, c.requires.1, length-rows_of l) in
+    let filled = c.fill.ensures.after (λ y e. e) ∙ ap (λ (k : ℕ). replicate k (pos 0)) (part-long l from n s whole inside) in
+    let first : length (take from (rows_of l)) ≡ from = length-take-le from (rows_of l) (omega (arith, c.requires.0, c.requires.1)) in
+    let most : max to from ≡ to = omega (arith, c.requires.0) in
+    let on : from + n ≡ to = omega (arith, c.requires.0) in
+    put-rows l from n s whole inside c.fill.new.self (rw filled (length-replicate (n * record_width) (pos 0)))
+    ∙ rw (filled, zero_rows n, first, most, drop-drop, on)

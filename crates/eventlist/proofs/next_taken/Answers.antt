@@ -10,13 +10,13 @@ use Rattle.laws.proofs.Leading.{one_more, no_more, at-end}
 use Rattle.events.specs.declared.Event.{Event}
 use Rattle.events.specs.Events.{zero_event}
 use Rattle.eventlist.specs.Rows.{rows_of, events_of}
-use Rattle.eventlist.specs.Windows.{windows_of, taken_by_any}
+use Rattle.eventlist.specs.Windows.{taken_by_any}
 use Rattle.eventlist.proofs.next_taken.Goals as goal
 
 -- what the test of event j says of it
 module _ (c : goal.Then-takes) where
   abbrev out : Event → Bool
-  out = taken_by_any (windows_of c.args.windows.now)
+  out = taken_by_any c.args.windows.now
 
   abbrev es : List Event
   es = events_of c.args.events.now c.args.count
@@ -34,7 +34,7 @@ module _ (c : goal.Then-takes) where
 -- what the test of event j says of it
 module _ (c : goal.Else-takes) where
   abbrev out-at-2 : Event → Bool
-  out-at-2 = taken_by_any (windows_of c.args.windows.now)
+  out-at-2 = taken_by_any c.args.windows.now
 
   abbrev es-at-2 : List Event
   es-at-2 = events_of c.args.events.now c.args.count
@@ -50,7 +50,7 @@ module _ (c : goal.Else-takes) where
       ∙ e)
 
 pub loop-j-init : goal.loop-j-init
-loop-j-init c = (omega arith, c.requires.0, refl)
+loop-j-init c = refl
 
 pub read_event-requires : goal.read_event-requires
 read_event-requires c = omega (arith, c.requires.1)
@@ -61,24 +61,18 @@ takes-requires c = c.requires.2
 pub returns-then-takes : goal.returns-then-takes
 returns-then-takes c =
     let z = no_more (λ e. not (out c e)) zero_event (es c) c.loop-j.j (at c) (told c true c.if-takes.true) in
-    let v = c.loop-j.invariant.2 in
+    let v = c.loop-j.invariant in
     omega arith
-
-pub overflow_add-j : goal.overflow_add-j
-overflow_add-j c = omega arith
-
-pub loop-j-smaller : goal.loop-j-smaller
-loop-j-smaller c = omega arith
 
 pub loop-j-preserved : goal.loop-j-preserved
 loop-j-preserved c =
     let z = one_more (λ e. not (out-at-2 c e)) zero_event (es-at-2 c) c.loop-j.j (at-at-2 c) (told-at-2 c false c.if-takes.false) in
-    let v = c.loop-j.invariant.2 in
-    (omega arith, omega arith, omega arith)
+    let v = c.loop-j.invariant in
+    omega arith
 
 pub returns : goal.returns
 returns c =
     let n = length-take-le c.args.count (rows_of c.args.events.now) c.requires.1 in
-    let z = at-end (λ e. not (taken_by_any (windows_of c.args.windows.now) e)) zero_event (events_of c.args.events.now c.args.count) c.loop-j.j (omega arith) in
-    let v = c.loop-j.invariant.2 in
+    let z = at-end (λ e. not (taken_by_any c.args.windows.now e)) zero_event (events_of c.args.events.now c.args.count) c.loop-j.j (omega arith) in
+    let v = c.loop-j.invariant in
     omega arith

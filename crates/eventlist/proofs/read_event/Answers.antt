@@ -4,14 +4,14 @@ use native.Mathlib.Omega.{arith}
 use Rattle.eventlist.proofs.EventRows.{room, read-part}
 use Rattle.eventlist.proofs.read_event.Goals as goal
 
-pub overflow_mul-a : goal.overflow_mul-a
-overflow_mul-a c = omega (arith, room c.args.events.now c.args.i c.requires)
+pub overflow_mul-at : goal.overflow_mul-at
+overflow_mul-at c = omega (arith, room c.args.events.now c.args.i c.requires)
 
-pub overflow_add-b : goal.overflow_add-b
-overflow_add-b c = omega (arith, room c.args.events.now c.args.i c.requires)
+pub overflow_add-at : goal.overflow_add-at
+overflow_add-at c = omega (arith, room c.args.events.now c.args.i c.requires)
 
-pub offset_bounds-events-a : goal.offset_bounds-events-a
-offset_bounds-events-a c = omega (arith, room c.args.events.now c.args.i c.requires)
+pub offset_bounds-events-at : goal.offset_bounds-events-at
+offset_bounds-events-at c = omega (arith, room c.args.events.now c.args.i c.requires)
 
 pub returns : goal.returns
 returns c = c.decode.ensures ∙ read-part c.args.events.now c.args.i c.requires

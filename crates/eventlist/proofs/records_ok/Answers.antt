@@ -15,30 +15,22 @@ asked : (store : ℕ) {e d : Event} (t : Bool) → e ≡ d → ok_event store e 
 asked store t p h = ap (ok_event store) (sym p) ∙ h
 
 pub loop-i-init : goal.loop-i-init
-loop-i-init c = (omega arith, refl)
+loop-i-init c = refl
 
 pub returns-then-not-event_ok : goal.returns-then-not-event_ok
 unfolding ok_events
 returns-then-not-event_ok c =
     failed-of (ok_event c.args.store) c.args.count (rows_of c.args.events.now) c.loop-i.i zero_event (omega arith) c.requires
     (asked c.args.store _ c.read_event.ensures (sym c.event_ok.ensures ∙ c.if-not-event_ok.true))
-    c.loop-i.invariant.1
-
-pub overflow_add-i : goal.overflow_add-i
-overflow_add-i c = omega arith
-
-pub loop-i-smaller : goal.loop-i-smaller
-loop-i-smaller c = omega arith
+    c.loop-i.invariant
 
 pub loop-i-preserved : goal.loop-i-preserved
-loop-i-preserved c = (
-  omega arith,
-  passed-of (ok_event c.args.store) c.args.count (rows_of c.args.events.now) c.loop-i.i zero_event (omega arith) c.requires
-      (asked c.args.store _ c.read_event.ensures (sym c.event_ok.ensures ∙ c.if-not-event_ok.false))
-      c.loop-i.invariant.1,
-)
+loop-i-preserved c =
+    passed-of (ok_event c.args.store) c.args.count (rows_of c.args.events.now) c.loop-i.i zero_event (omega arith) c.requires
+    (asked c.args.store _ c.read_event.ensures (sym c.event_ok.ensures ∙ c.if-not-event_ok.false))
+    c.loop-i.invariant
 
 pub returns : goal.returns
 unfolding ok_events
 returns c =
-    ended_of (ok_event c.args.store) c.args.count (rows_of c.args.events.now) c.loop-i.i c.requires (omega arith) c.loop-i.invariant.1
+    ended_of (ok_event c.args.store) c.args.count (rows_of c.args.events.now) c.loop-i.i c.requires (omega arith) c.loop-i.invariant

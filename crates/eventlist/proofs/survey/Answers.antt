@@ -7,7 +7,7 @@ use lib.Dec.{eqb}
 use Rattle.events.specs.declared.Event.{Event}
 use Rattle.eventlist.specs.Rows.{rows_of}
 use Rattle.eventlist.specs.Sound.{ok_events}
-use Rattle.eventlist.specs.Windows.{windows_of, taken_by_any}
+use Rattle.eventlist.specs.Windows.{taken_by_any}
 use Rattle.eventlist.proofs.Surveying.{at_most_one, begun, first-le, refused, further-on, unstored, ended}
 use Rattle.eventlist.proofs.survey.Goals as goal
 
@@ -17,21 +17,21 @@ module _ (c : goal.In-loop-i) where
 
 module _ (c : goal.Then-not-event_ok) where
   abbrev out-at-2 : Event → Bool
-  out-at-2 = taken_by_any (windows_of c.args.windows.now)
+  out-at-2 = taken_by_any c.args.windows.now
 
-module _ (c : goal.After-one_if-taken) where
+module _ (c : goal.After-from-taken) where
   within-at-3 : c.loop-i.i ≤ c.args.count
   within-at-3 = c.loop-i.invariant.within
 
-module _ (c : goal.After-one_if-first) where
+module _ (c : goal.After-from-first) where
   abbrev out-at-4 : Event → Bool
-  out-at-4 = taken_by_any (windows_of c.args.windows.now)
+  out-at-4 = taken_by_any c.args.windows.now
 
   first-at-at-4 : c.loop-i.first ≤ c.loop-i.i
   first-at-at-4 = first-le c.args.store out-at-4 (rows_of c.args.events.now) c.args.count c.requires c.loop-i.first c.loop-i.taken c.loop-i.i c.loop-i.invariant
 
 pub loop-i-init : goal.loop-i-init
-loop-i-init c = begun c.args.store (taken_by_any (windows_of c.args.windows.now)) (rows_of c.args.events.now) c.args.count c.requires
+loop-i-init c = begun c.args.store (taken_by_any c.args.windows.now) (rows_of c.args.events.now) c.args.count c.requires
 
 pub read_event-e-requires : goal.read_event-e-requires
 read_event-e-requires c = omega (arith, within c, c.requires)
@@ -39,7 +39,7 @@ read_event-e-requires c = omega (arith, within c, c.requires)
 pub returns-then-not-event_ok : goal.returns-then-not-event_ok
 unfolding ok_events
 returns-then-not-event_ok c =
-    unstored c.args.store (windows_of c.args.windows.now) c.args.events.now c.args.count c.requires
+    unstored c.args.store c.args.windows.now c.args.events.now c.args.count c.requires
     (refused c.args.store (out-at-2 c) (rows_of c.args.events.now) c.args.count c.requires c.loop-i.first c.loop-i.taken c.loop-i.i c.loop-i.invariant (omega arith)
     c.read_event-e.result c.read_event-e.ensures (sym c.event_ok.ensures ∙ c.if-not-event_ok.true))
 
@@ -49,24 +49,18 @@ takes-hit-requires c = c.span_of-span.ensures
 pub overflow_add-taken : goal.overflow_add-taken
 overflow_add-taken c =
     let n = c.loop-i.invariant.counted in
-    omega (arith, within-at-3 c, at_most_one c.takes-hit.result c.one_if-taken.ensures)
+    omega (arith, within-at-3 c, at_most_one c.takes-hit.result c.from-taken.ensures)
 
 pub overflow_add-first : goal.overflow_add-first
 overflow_add-first c =
-    omega (arith, first-at-at-4 c, at_most_one (eqb c.loop-i.first c.loop-i.i && not c.takes-hit.result) c.one_if-first.ensures)
-
-pub overflow_add-i : goal.overflow_add-i
-overflow_add-i c = omega arith
-
-pub loop-i-smaller : goal.loop-i-smaller
-loop-i-smaller c = omega arith
+    omega (arith, first-at-at-4 c, at_most_one (eqb c.loop-i.first c.loop-i.i && not c.takes-hit.result) c.from-first.ensures)
 
 pub loop-i-preserved : goal.loop-i-preserved
 loop-i-preserved c =
-    rw (c.one_if-first.ensures, c.one_if-taken.ensures)
+    rw (c.from-first.ensures, c.from-taken.ensures)
     (further-on c.args.store (out-at-4 c) (rows_of c.args.events.now) c.args.count c.requires c.loop-i.first c.loop-i.taken c.loop-i.i c.loop-i.invariant (omega arith)
     c.read_event-e.result c.read_event-e.ensures (sym c.event_ok.ensures ∙ c.if-not-event_ok.false) c.takes-hit.result _ c.takes-hit.ensures refl)
 
 pub returns : goal.returns
 returns c =
-    ended c.args.store (windows_of c.args.windows.now) c.args.events.now c.args.count c.requires c.loop-i.first c.loop-i.taken c.loop-i.i c.loop-i.invariant (omega arith)
+    ended c.args.store c.args.windows.now c.args.events.now c.args.count c.requires c.loop-i.first c.loop-i.taken c.loop-i.i c.loop-i.invariant (omega arith)

@@ -1,12 +1,8 @@
 -- `survey` meets its contract: each turn passes one event more (laws of Surveying).
-use Prim.Native.Nat.{◌-◌}
 use Rattle.eventlist.specs.Rows.{rows_of}
-use Rattle.eventlist.specs.Windows.{windows_of, taken_by_any}
+use Rattle.eventlist.specs.Windows.{taken_by_any}
 use Rattle.eventlist.proofs.Surveying.{Passing}
 use Rattle.eventlist.proofs.survey.Given as goal
 
 abbrev pub invariant-loop-i : goal.invariant-loop-i
-invariant-loop-i l = Passing l.store (taken_by_any (windows_of l.windows)) (rows_of l.events) l.count l.first l.taken l.i
-
-abbrev pub decreases-loop-i : goal.decreases-loop-i
-decreases-loop-i l = l.count - l.i
+invariant-loop-i l = Passing l.store (taken_by_any l.windows) (rows_of l.events) l.count l.first l.taken l.i

@@ -8,20 +8,20 @@ use lib.IntN.{ℤ, pos, ◌+ℤ◌}
 use lib.Signed.{le_z, quot_z, rem_z}
 use mir.Syntax.{w64}
 use mir.Val.{SFits, to_z, of_z}
-use mir.Facts.{to_z-of_z, to_z_pos}
+use mir.Facts.{to_z-of_z}
 use Rattle.laws.specs.Integers.{cut}
 use Rattle.laws.proofs.Signed.{back, le-back-l, pos-bits, quot_fits}
 use Rattle.numbers.proofs.Spreading as S
 use Rattle.numbers.proofs.spread.Goals as goal
 
-module _ (c : goal.Else-width-le0) where
+module _ (c : goal.After-from) where
   up : le_z c.args.width (pos 0) ≡ false
   up = le-back-l (pos 0) c.ranges.width c.if-width-le0.false
 
-  y-is : to_z w64 c.args.y ≡ pos c.args.y
-  y-is = to_z_pos w64 (omega arith)
+  y-is : to_z w64 (of_z w64 c.from.result) ≡ pos c.args.y
+  y-is = back {w = w64} c.from.ensures (omega arith)
 
-  rem_read : to_z w64 (of_z w64 (rem_z (to_z w64 c.args.y) (to_z w64 (of_z w64 c.args.width)))) ≡ pos (c.args.y % cut c.args.width)
+  rem_read : to_z w64 (of_z w64 (rem_z (to_z w64 (of_z w64 c.from.result)) (to_z w64 (of_z w64 c.args.width)))) ≡ pos (c.args.y % cut c.args.width)
   rem_read =
       back (ap₂ rem_z y-is (to_z-of_z c.ranges.width) ∙ S.rem_is c.args.width c.args.y up) (S.rem-fits c.args.v c.args.width c.args.y c.requires.0 c.requires.1 up)
 
@@ -53,6 +53,6 @@ overflow_sub-r c = rw (rem_read c, half-read c) (gain-fits c)
 pub overflow_add-result : goal.overflow_add-result
 overflow_add-result c = rw (rem_read c, half-read c, to_z-of_z (gain-fits c), to_z-of_z c.ranges.v) (sum_fits c)
 
-pub returns : goal.returns
-returns c =
+pub returns-else-width-le0 : goal.returns-else-width-le0
+returns-else-width-le0 c =
     rw (rem_read c, half-read c, to_z-of_z (gain-fits c), to_z-of_z c.ranges.v, to_z-of_z (sum_fits c)) (sym (S.spread-on c.args.v c.args.width c.args.y (up c)))

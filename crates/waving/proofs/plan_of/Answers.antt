@@ -4,19 +4,16 @@ use mathlib.Core.List.{◌++◌, append-nil}
 use Prim.Native.Nat.{◌+◌, ◌*◌, ◌≤◌, ◌<◌}
 use native.Mathlib.Omega.{arith}
 use borrow.Author.Tests.{ltb-true}
-use lib.ListN.{length, take}
+use lib.ListN.{length, take, length-set}
 use Rattle.laws.proofs.Ranges.{left}
 use Rattle.budget.specs.declared.Budget.{Budget}
 use Rattle.counted.specs.Numbers.{shown}
 use Rattle.offers.specs.Waves.{triples}
-use Rattle.eventlist.specs.Windows.{windows_of}
-use Rattle.eventlist.proofs.WindowRows.{length-windows_of}
 use Rattle.writing.proofs.Origins.{far}
 use Rattle.state.proofs.Stored.{waves-few, sines-few}
 use Rattle.waving.specs.Drawings.{drawings_of}
 use Rattle.waving.specs.Passes.{Passes, passes}
 use Rattle.waving.proofs.Places.{drawings-long, next-drawing}
-use Rattle.waving.proofs.Clearing.{first-windows}
 use Rattle.waving.proofs.Passing.{ended, further, window-further, stops, pass-used, drafts-budget, drafts-window}
 use Rattle.waving.proofs.plan_of.Goals.{Start, In-loop-i, After-loop-i}
 use Rattle.waving.proofs.plan_of.Goals as goal
@@ -30,8 +27,8 @@ module _ (c : In-loop-i) (few : c.args.track.waves.count + c.args.track.sines.co
   inside = ltb-true _ _ (left _ _ c.loop-i-test.true)
 
   -- a window has its place
-  held : c.loop-i.i < length (windows_of c.loop-i.windows)
-  held = let n = c.loop-i.invariant.1 in let w = length-windows_of c.loop-i.windows in omega (arith, inside, few)
+  held : c.loop-i.i < length c.loop-i.windows
+  held = let n = c.loop-i.invariant.1 in omega (arith, inside, few)
 
 -- after the last
 module _ (c : After-loop-i) where
@@ -44,18 +41,23 @@ module _ (c : After-loop-i) where
 pub overflow_add-total : goal.overflow_add-total
 overflow_add-total c = omega (arith, total-few (goal.at.overflow_add-total c).Start)
 
-pub figure_window-w-requires : goal.figure_window-w-requires
-figure_window-w-requires c =
+pub figure_window-requires : goal.figure_window-requires
+figure_window-requires c =
     let r = c.draft_at-d.result in
     let a = c.draft_at-d.ensures.able in
     let f = far (triples (shown r.numbers)) r.figure.origin a.shaped.asked in
     let l = a.shaped.long in
     (a.ready, omega arith)
 
-pub put_window-requires : goal.put_window-requires
-put_window-requires c =
-    let at = goal.at.put_window-requires c in
-    held at.In-loop-i (total-few at.Start)
+pub offset_bounds-windows-i : goal.offset_bounds-windows-i
+offset_bounds-windows-i c =
+    let at = goal.at.offset_bounds-windows-i c in
+    omega (arith, inside at.In-loop-i (total-few at.Start), total-few at.Start)
+
+pub bounds-windows-i : goal.bounds-windows-i
+bounds-windows-i c =
+    let at = goal.at.bounds-windows-i c in
+    omega (arith, inside at.In-loop-i (total-few at.Start), total-few at.Start)
 
 pub overflow_add-i : goal.overflow_add-i
 overflow_add-i c =
@@ -75,11 +77,11 @@ loop-i-preserved c =
     let D = c.draft_at-d.ensures in
     let left = c.foresee_draft-rest.ensures ∙ drafts-budget c.draft_at-d.result _ c.loop-i.rest D in
     let more =
-    window-further ds A.b c.loop-i.i _ c.loop-i.rest long v.0 _ next c.loop-i-test.true (windows_of c.loop-i.windows) (held at.In-loop-i few)
-    (c.figure_window-w.ensures ∙ drafts-window c.draft_at-d.result _ c.loop-i.rest D) left v.2 in (
+    window-further ds A.b c.loop-i.i _ c.loop-i.rest long v.0 _ next c.loop-i-test.true c.loop-i.windows (held at.In-loop-i few)
+    (c.figure_window.ensures ∙ drafts-window c.draft_at-d.result _ c.loop-i.rest D) left v.2 in (
       further ds A.b c.loop-i.i _ c.loop-i.rest long v.0 _ next c.loop-i-test.true left,
-      c.put_window.auto.windows ∙ v.1,
-      rw c.put_window.ensures more,
+      length-set c.loop-i.windows c.loop-i.i _ ∙ v.1,
+      more,
     )
 
 pub overflow_sub-result : goal.overflow_sub-result
@@ -94,13 +96,12 @@ returns c =
     let v = c.loop-i.invariant in
     let u = used at.After-loop-i in
     let m : c.loop-i.i ≤ 32 = let w = v.0.within in omega (arith, long, total-few at.Start) in
-    let ws = take c.loop-i.i (windows_of c.loop-i.windows) in
+    let ws = take c.loop-i.i c.loop-i.windows in
     record {
       few = m;
       long = v.1;
       windows =
-          first-windows c.loop-i.i c.loop-i.windows (let n = v.1 in omega arith)
-          ∙ sym (append-nil ws)
+          sym (append-nil ws)
           ∙ sym (ap (λ (p : Passes). ws ++ p.windows) (stops ds c.loop-i.i _ c.loop-i.rest long c.loop-i-test.false))
           ∙ v.2;
       added = omega arith;

@@ -17,7 +17,6 @@ use Rattle.events.specs.declared.Event.{Event}
 use Rattle.events.specs.Events.{zero_event}
 use Rattle.eventlist.specs.declared.Cleared.{Cleared}
 use Rattle.eventlist.specs.Rows.{record_width, rows_of, events_of}
-use Rattle.eventlist.specs.Windows.{windows_of}
 use Rattle.eventlist.specs.Clearing.{kept_by_all}
 use Rattle.eventlist.proofs.EventRows.{length-rows_of, same_rows}
 use Rattle.values.specs.declared.Offer.{Offer}
@@ -61,7 +60,7 @@ module _ (c : Start) where
   long-is = c.requires.ready.3
 
   -- what the survey saw is what the window keeps
-  keeps-are : kept_by_all (windows_of c.args.windows.now) c.args.events.now c.args.count ≡ keeps
+  keeps-are : kept_by_all c.args.windows.now c.args.events.now c.args.count ≡ keeps
   keeps-are =
       lone-keeps c.args.w (total ts) c.args.events.now c.args.count
       (c.requires.windows_value.0 ∙ ap (λ (n : ℕ). window_of c.args.w n ∷ []) long-is)
@@ -86,7 +85,7 @@ module _ (c : Start) where
       ∙ lacks-is c.args.w c.args.b all (total ts) R c.args.count (c.args.count - c.args.seen.taken) kept-is kept-fits
 
   -- after the window is taken out of a list that has room
-  enough : {left : ℕ} (l : List ℤ) → left ≡ length (kept_by_all (windows_of c.args.windows.now) c.args.events.now c.args.count) → lacks_room_for c.args.w c.args.b ts R c.args.count ≡ false
+  enough : {left : ℕ} (l : List ℤ) → left ≡ length (kept_by_all c.args.windows.now c.args.events.now c.args.count) → lacks_room_for c.args.w c.args.b ts R c.args.count ≡ false
       → length l ≡ length c.args.events.now → left + length news ≤ length (rows_of l)
   enough l kept room e =
       let t = ltb-false (length R) (length (keeps ++ news)) room in
