@@ -8,3 +8,4 @@ pub mod ReadBack
 pub mod Apart
 pub mod Calls
 pub mod Cases
+pub mod Asking

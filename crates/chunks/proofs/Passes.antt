@@ -2,7 +2,6 @@
 --     Next, next_of                                           the event that is met behind i of them
 --     WeighedTo, weigh-begun, -passed, -failed, -ended        the pass that tests and counts
 --     tally_at, well-passed                                    the same of a pass that met only events that are well
---     unstored, known, weighed-stored, weighed-all            what they answer
 --     PutTo, put-begun, -writable, -room, -passed             the pass that writes
 --     put-tail, put_ended                                     and the end of track
 use mathlib.Core.Path.{◌≡◌, refl, subst, ◌∙◌}
@@ -15,7 +14,9 @@ use lib.Dec.{lit<}
 use lib.IntN.{ℤ, pos}
 use lib.ListN.{length, take, drop, get_or, length-append, drop_of_length-le}
 use lib.Seq.{drop-cons, get_or-take, length-take-le}
+use Rattle.std.specs.Prelude.{Ok, Err}
 use Rattle.laws.specs.Lists.{all}
+use Rattle.numbers.specs.declared.refusals.Refusal.TheVariants.{OutOfRange, OutOfOrder, Unwritable}
 use Rattle.laws.proofs.Bools.{and-on}
 use Rattle.laws.proofs.Ranges.{sized-small}
 use Rattle.laws.proofs.Tests.{Left, ended}
@@ -28,7 +29,6 @@ use Rattle.text.specs.Laying.{laid}
 use Rattle.text.proofs.Laying.{laid-behind, laid-long}
 use Rattle.chunks.specs.declared.Pen.{Pen}
 use Rattle.chunks.specs.declared.Tally.{Tally}
-use Rattle.chunks.specs.declared.Weighed.{Weighed}
 use Rattle.chunks.specs.Chunks.{written_after, body_from, body_of}
 use Rattle.chunks.specs.Writing.{follows, gapped, fits}
 use Rattle.chunks.specs.Steps.{tallied, weighed, well_after, Writable, Ready}
@@ -58,13 +58,6 @@ joined : (a b c : Bool) → (a && (b && c)) ≡ (a && b && c)
 joined true b c = refl
 joined false b c = refl
 
--- the two answers
-abbrev pub unstored : Weighed
-unstored = record { stored = false; gaps = false; fields = false; bytes = 0 }
-
-abbrev pub known : List Event → Weighed
-known es = record { stored = true; gaps = gapped (pos 0) es; fields = all fits es; bytes = length (body_of es) }
-
 -- i events of es make the tally t
 pub record WeighedTo (store : ℕ) (es : List Event) (i : ℕ) (t : Tally) : Type 0 where
   pub timed : is_event_time t.last ≡ true
@@ -79,7 +72,7 @@ weigh-begun store es = record { timed = zero-timed; few = omega arith; stored = 
 
 module _ {store : ℕ} {es : List Event} {i : ℕ} {t : Tally} (w : WeighedTo store es i t) where
   module _ {e : Event} (n : Next es i e) where
-    pub weigh-failed : ok_event store e ≡ false → unstored ≡ weighed store es
+    pub weigh-failed : ok_event store e ≡ false → Err OutOfRange ≡ weighed store es
     unfolding weighed all
     weigh-failed bad = rw (w.stored, n, bad)
 
@@ -97,7 +90,7 @@ module _ {store : ℕ} {es : List Event} {i : ℕ} {t : Tally} (w : WeighedTo st
           bytes = w.bytes ∙ rw n (omega (arith, body-length t.last e (drop (i + 1) es)));
         }
 
-  pub weigh-ended : length es ≤ i → ◌≡◌ {A = Weighed} (record { stored = true; gaps = t.gaps; fields = t.fields; bytes = t.bytes + 4 }) (weighed store es)
+  pub weigh-ended : length es ≤ i → cond t.gaps (cond t.fields (Ok (t.bytes + 4)) (Err Unwritable)) (Err OutOfOrder) ≡ weighed store es
   unfolding weighed all gapped body_from quantity_of
   weigh-ended h =
       let none = drop_of_length-le es {i = i} h in
@@ -111,20 +104,6 @@ pub well-passed : {store : ℕ} {es : List Event} {i : ℕ} {p : Pen} → Weighe
     → WeighedTo store es (i + 1) (tally_at (record { at = p.at + length (written_after p.time e); time = e.time }))
 well-passed {store} {p = p} w {e} n h =
     rw (well-follows p.time e h, well-fits p.time e h) at (weigh-passed w n (well-stored p.time e h store))
-
--- what the answer says of the list
-module _ (store : ℕ) (es : List Event) where
-  pub weighed-stored : (weighed store es).stored ≡ all (ok_event store) es
-  unfolding weighed
-  weighed-stored = go (all (ok_event store) es)
-    where
-      go : (b : Bool) → (cond b (known es) unstored).stored ≡ b
-      go true = refl
-      go false = refl
-
-  pub weighed-all : all (ok_event store) es ≡ true → weighed store es ≡ known es
-  unfolding weighed
-  weighed-all h = rw h
 
 -- ---- the pass that writes
 -- what is written of the rest at p makes of o what all that is written at `at` makes of the output at entry

@@ -1,7 +1,7 @@
 -- The refusals of a chunk in their order, and what holds where nothing refuses.
 --     chunk-length                                            the bytes of a chunk
 --     room-length, room-enough                                what room says
---     no-list, no-events, no_gaps, no_fields, no_room, well   the answer, by the first test that fails
+--     no-list, roomed, listed                                 the answer, by what was weighed
 --     Accepted, accepted                                      where nothing refuses, every test holds
 --     accepted-writes, accepted-ready, accepted-bytes         so that the events can be written, and the answer is their bytes
 --     left_alone, left-written, chunk-put                     the output
@@ -11,20 +11,23 @@ use mathlib.Core.List.{List, ◌++◌}
 use Prim.Native.Nat.{ℕ, ◌+◌, ◌≤◌, ◌<◌}
 use native.Mathlib.Omega.{arith}
 use borrow.Author.Tests.{ltb-true, leb-true, ne_eqb}
-use lib.Dec.{ltb, leb}
+use lib.Dec.{eqb, ltb, leb}
 use lib.IntN.{ℤ, pos}
 use lib.ListN.{length}
+use Rattle.std.specs.Prelude.{Result, Ok, Err}
 use Rattle.laws.specs.Lists.{all}
+use Rattle.numbers.specs.declared.refusals.Refusal.{Refusal}
+use Rattle.numbers.specs.declared.refusals.Refusal.TheVariants.{OutOfRange, OutOfOrder, Unwritable, OutputShort}
+use Rattle.events.specs.Events.{ok_event}
 use Rattle.laws.proofs.Ranges.{left, right}
 use Rattle.events.specs.declared.Event.{Event}
 use Rattle.eventlist.specs.Rows.{events_of}
 use Rattle.eventlist.specs.Sound.{is_list, ok_events}
 use Rattle.text.specs.Laying.{laid}
 use Rattle.text.proofs.Laying.{put-behind}
-use Rattle.chunks.specs.declared.Chunk.{Chunk}
 use Rattle.chunks.specs.Chunks.{body_of, length_top, big_endian, mark, chunk_of}
 use Rattle.chunks.specs.Writing.{gapped, fits, head_bytes, room_for, chunk_refusal, refused_chunk, chunk_written, chunk_left}
-use Rattle.chunks.specs.Steps.{Ready}
+use Rattle.chunks.specs.Steps.{Ready, weighed, answer_of}
 use Rattle.chunks.specs.Told.{Writes}
 use Rattle.chunks.proofs.Readiness.{ready}
 
@@ -43,6 +46,11 @@ module _ (body size : ℕ) (h : room_for body size ≡ true) where
   room-enough = leb-true (head_bytes + body) size (right (ltb body length_top) (leb (head_bytes + body) size) h)
 
 -- ---- the answer
+-- the bytes of a chunk, if it has room
+abbrev pub roomed : ℕ → Result ℕ Refusal → Result ℕ Refusal
+roomed size (Ok body) = cond (room_for body size) (Ok (head_bytes + body)) (Err OutputShort)
+roomed size (Err r) = Err r
+
 module _ (store : ℕ) (l : List ℤ) (count size : ℕ) where
   abbrev es : List Event
   es = events_of l count
@@ -51,30 +59,23 @@ module _ (store : ℕ) (l : List ℤ) (count size : ℕ) where
   unfolding chunk_refusal
   no-list a = rw a
 
-  module _ (a : is_list l count ≡ true) where
-    pub no-events : ok_events store l count ≡ false → refused_chunk 4 ≡ chunk_written store l count size
-    unfolding chunk_refusal
-    no-events b = rw (a, b)
+  -- of a list, what was weighed says the answer, and the room
+  pub listed : is_list l count ≡ true → answer_of (roomed size (weighed store es)) ≡ chunk_written store l count size
+  unfolding chunk_refusal ok_events weighed
+  listed a =
+      rw (a, chunk-length es) (go (all (ok_event store) es) (gapped (pos 0) es) (all fits es) (room_for (length (body_of es)) size) refl)
+    where
+      unwritten : Bool → Bool → Bool → Bool → ℕ
+      unwritten b g f r = cond b (cond g (cond f (cond r 0 12) 11) 10) 4
 
-    module _ (b : ok_events store l count ≡ true) where
-      pub no_gaps : gapped (pos 0) (events_of l count) ≡ false → refused_chunk 10 ≡ chunk_written store l count size
-      unfolding chunk_refusal
-      no_gaps g = rw (a, b, g)
-
-      module _ (g : gapped (pos 0) (events_of l count) ≡ true) where
-        pub no_fields : all fits (events_of l count) ≡ false → refused_chunk 11 ≡ chunk_written store l count size
-        unfolding chunk_refusal
-        no_fields f = rw (a, b, g, f)
-
-        module _ (f : all fits (events_of l count) ≡ true) where
-          pub no_room : room_for (length (body_of (events_of l count))) size ≡ false → refused_chunk 12 ≡ chunk_written store l count size
-          unfolding chunk_refusal
-          no_room r = rw (a, b, g, f, r)
-
-          pub well : room_for (length (body_of (events_of l count))) size ≡ true → (bytes : ℕ) → bytes ≡ head_bytes + length (body_of (events_of l count))
-              → ◌≡◌ {A = Chunk} (record { code = 0; bytes = bytes }) (chunk_written store l count size)
-          unfolding chunk_refusal
-          well r bytes e = rw (a, b, g, f, r, e, chunk-length (events_of l count))
+      go : (b g f r : Bool) → room_for (length (body_of es)) size ≡ r
+          → answer_of (roomed size (cond b (cond g (cond f (Ok (length (body_of es))) (Err Unwritable)) (Err OutOfOrder)) (Err OutOfRange)))
+          ≡ record { code = unwritten b g f r; bytes = cond (eqb (unwritten b g f r) 0) (head_bytes + length (body_of es)) 0 }
+      go true true true true e = rw e
+      go true true true false e = rw e
+      go true true false r e = refl
+      go true false f r e = refl
+      go false g f r e = refl
 
   -- a list that is not refused
   pub record Accepted : Type 0 where

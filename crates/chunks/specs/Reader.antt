@@ -1,7 +1,8 @@
 -- A chunk's body read as Standard MIDI Files 1.0 has it and as 02, e) asks, over what becomes of a message: `make` is handed a message's status,
 -- its time and its two data bytes, the second 0 where it has none, and says what is kept of it. What reads back what b) writes, and what e)
 -- promises, are the same reader with another `make`.
-use Rattle.std.specs.Prelude.{Bool, cond, ◌&&◌, ◌||◌, List, [], ◌∷◌, ◌++◌, ℕ, zero, suc, ◌+◌, ◌*◌, ◌/◌, eqb, ltb, leb, length, drop, get_or}
+use Rattle.std.specs.Prelude.{Bool, cond, ◌||◌, Option, Some, None, List, [], ◌∷◌, ◌++◌, ℕ, zero, suc, ◌+◌, ◌*◌, ◌/◌, eqb, ltb, leb, length, drop, get_or}
+use Rattle.quantities.specs.declared.Quantity.{Quantity}
 use Rattle.quantities.specs.Quantities.{quantity_in}
 
 -- four bytes from the front, big end first
@@ -33,17 +34,21 @@ module _ {A : Type 0} where
   abbrev pub fault : ℕ → Seen A
   fault n = seen n [] 0 0 0
 
+  -- what is said of the quantity at the front; where none stands there it is a fault
+  abbrev pub with_quantity : Option Quantity → (Quantity → Seen A) → Seen A
+  with_quantity None says = fault 14
+  with_quantity (Some n) says = says n
+
   -- Meta and system exclusive: so many bytes as a quantity says are stepped over; `used` bytes stand before it. They end running status.
   unfoldable pub step_over : ℕ → ℕ → List ℕ → Seen A
   step_over gap used l =
-      let n = quantity_in l in
-      cond (n.ok && leb (n.used + n.value) (length l)) (seen 0 [] (used + (n.used + n.value)) 0 gap) (fault 14)
+      with_quantity (quantity_in l) (λ n. cond (leb (n.used + n.value) (length l)) (seen 0 [] (used + (n.used + n.value)) 0 gap) (fault 14))
 
   -- the end of track has no length, and nothing stands behind it
   unfoldable pub end_in : ℕ → ℕ → List ℕ → Seen A
   end_in gap used l =
-      let n = quantity_in l in
-      cond (n.ok && eqb n.value 0) (cond (eqb n.used (length l)) (seen 1 [] (used + n.used) 0 gap) (fault 15)) (fault 14)
+      with_quantity (quantity_in l)
+      (λ n. cond (eqb n.value 0) (cond (eqb n.used (length l)) (seen 1 [] (used + n.used) 0 gap) (fault 15)) (fault 14))
 
   -- a Meta event from its type on; type 2F is the end of track
   unfoldable pub meta_in : ℕ → ℕ → List ℕ → Seen A
@@ -74,9 +79,8 @@ module _ {A : Type 0} where
     -- the event at the front, behind a running status and a time; an end of the input between two events is 15
     unfoldable pub seen_in : ℕ → ℕ → List ℕ → Seen A
     seen_in running time l =
-        let n = quantity_in l in
         cond (eqb (length l) 0) (fault 15)
-        (cond n.ok (status_in running (time + n.value) n.value n.used (drop n.used l)) (fault 14))
+        (with_quantity (quantity_in l) (λ n. status_in running (time + n.value) n.value n.used (drop n.used l)))
 
     -- event after event, at most k, up to the end of track or the first fault
     unfoldable pub read_from : ℕ → ℕ → ℕ → List ℕ → Whole A

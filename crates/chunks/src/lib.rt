@@ -9,15 +9,15 @@ ghost use Rattle.laws.specs.Integers.{cut};
 ghost use Rattle.numbers.specs.Ranges.{is_event_time, is_channel, is_bend};
 ghost use Rattle.eventlist.specs.Rows.{rows_of, events_of};
 ghost use Rattle.text.specs.Laying.{laid};
-ghost use Rattle.chunks.specs.Chunks.{message_of, written_after, body_of, big_endian, mark};
-ghost use Rattle.chunks.specs.Writing.{is_data, fits, head_bytes, room_for, refused_chunk, chunk_written, chunk_left};
-ghost use Rattle.chunks.specs.Steps.{tallied, weighed, well_after, bytes_of, Writable, Ready};
+ghost use Rattle.chunks.specs.Chunks.{message_of, written_after, body_of, big_endian, mark, length_top};
+ghost use Rattle.chunks.specs.Writing.{is_data, fits, head_bytes, room_for, chunk_written, chunk_left};
+ghost use Rattle.chunks.specs.Steps.{tallied, weighed, answer_of, well_after, bytes_of, Writable, Ready};
 
 use eventlist::{list_ok, read_event};
 use events::{CONTROL_CHANGE, Event, NOTE_OFF, NOTE_ON, PITCH_BEND, VOICE, event_ok};
-use numbers::{is_bend, is_channel, is_event_time, is_word, within};
+use numbers::{Refusal, ask, is_bend, is_channel, is_event_time, is_word, within};
 use quantities::{put_quantity, quantity_size};
-use text::put_byte;
+use text::{put, put_byte};
 
 // The statuses of channel 0.
 const STATUS_NOTE_OFF: u8 = 128;
@@ -49,15 +49,6 @@ pub struct Chunk {
     pub bytes: usize,
 }
 
-fn refuse(code: u32) -> Chunk
-    ensures { result ≡ refused_chunk code }
-{
-    Chunk {
-        code: code,
-        bytes: 0,
-    }
-}
-
 // Whether a number is a data byte.
 fn is_data(z: i64) -> bool
     ensures { result ≡ is_data z }
@@ -82,8 +73,7 @@ fn event_fits(e: Event) -> bool
 fn message_size(e: Event) -> usize
     ensures { result ≡ length (message_of e) }
 {
-    let kind = e.kind;
-    match kind {
+    match e.kind {
         NOTE_ON | NOTE_OFF | CONTROL_CHANGE | PITCH_BEND => 3,
         VOICE => 2,
         _ => 0,
@@ -94,10 +84,7 @@ fn message_size(e: Event) -> usize
 fn as_quantity(gap: i64) -> u64
     ensures { result ≡ cut gap }
 {
-    if gap < 0 {
-        return 0;
-    }
-    gap as u64
+    u64::try_from(gap).unwrap_or(0)
 }
 
 // The bytes of an event behind a time.
@@ -135,19 +122,9 @@ fn one_more(t: Tally, e: Event) -> Tally
     }
 }
 
-// What is known of a list before it is written: whether each event may be stored, whether each follows the one before it,
-// whether each fits, and how long the body is.
-#[derive(Clone, Copy)]
-struct Weighed {
-    stored: bool,
-    gaps: bool,
-    fields: bool,
-    bytes: usize,
-}
-
-// Goes over the `count` events, beside a store of `store` bytes, and asks everything of each. Where one may not be stored it
-// says no more.
-fn weigh(events: &[i64], count: usize, store: usize) -> Weighed
+// Goes over the `count` events, beside a store of `store` bytes, and asks everything of each: the length of the body, or why
+// it is not written. Where one may not be stored it asks no further.
+fn weigh(events: &[i64], count: usize, store: usize) -> Result<usize, Refusal>
     requires { count ≤ length (rows_of events.now) }
     ensures { result ≡ weighed store (events_of events.now count) }
 {
@@ -157,26 +134,14 @@ fn weigh(events: &[i64], count: usize, store: usize) -> Weighed
         fields: true,
         bytes: 0,
     };
-    let mut i: usize = 0;
-    while i < count {
+    for i in 0..count {
         let e = read_event(events, i);
-        if !event_ok(e, store) {
-            return Weighed {
-                stored: false,
-                gaps: false,
-                fields: false,
-                bytes: 0,
-            };
-        }
+        ask(event_ok(e, store), Refusal::OutOfRange)?;
         t = one_more(t, e);
-        i += 1;
     }
-    Weighed {
-        stored: true,
-        gaps: t.gaps,
-        fields: t.fields,
-        bytes: t.bytes + TAIL,
-    }
+    ask(t.gaps, Refusal::OutOfOrder)?;
+    ask(t.fields, Refusal::Unwritable)?;
+    Ok(t.bytes + TAIL)
 }
 
 // Where the next event is put, and the time that its gap is counted from.
@@ -210,69 +175,43 @@ fn move_on(p: Pen, e: Event) -> Pen
     requires { (is_event_time p.time ≡ true) × ((is_event_time e.time ≡ true) × (p.at + 7 < 18446744073709551616)) }
     ensures { result ≡ record { at = p.at + length (written_after p.time e); time = e.time } }
 {
-    let at = p.at + event_size(p.time, e);
-    let time = e.time;
-    Pen { at: at, time: time }
+    Pen {
+        at: p.at + event_size(p.time, e),
+        time: e.time,
+    }
 }
 
 // The same answer as `weigh`, which is asked only where an event cannot be written.
-fn measure(events: &[i64], count: usize, store: usize) -> Weighed
+fn measure(events: &[i64], count: usize, store: usize) -> Result<usize, Refusal>
     requires { count ≤ length (rows_of events.now) }
     ensures { result ≡ weighed store (events_of events.now count) }
 {
     let mut p = Pen { at: 0, time: 0 };
-    let mut i: usize = 0;
-    while i < count {
+    for i in 0..count {
         let e = read_event(events, i);
         if !is_well(p.time, e) {
             return weigh(events, count, store);
         }
         p = move_on(p, e);
-        i += 1;
     }
-    Weighed {
-        stored: true,
-        gaps: true,
-        fields: true,
-        bytes: p.at + TAIL,
-    }
+    Ok(p.at + TAIL)
 }
 
 // Whether a chunk with a body of so many bytes has a length of four bytes, and room.
 fn has_room(body: usize, room: usize) -> bool
     ensures { result ≡ room_for body room }
 {
-    if LENGTH_TOP <= body {
-        return false;
-    }
-    HEAD + body <= room
+    body < LENGTH_TOP && HEAD + body <= room
 }
 
-// What is answered for a list and an output of `room` bytes, before anything is written.
-fn judge(events: &[i64], count: usize, store: usize, room: usize) -> Chunk
-    ensures { result ≡ chunk_written store events.now count room }
+// The bytes of the chunk of a list, or why it is not written to an output of `room` bytes; nothing is written yet.
+fn judge(events: &[i64], count: usize, store: usize, room: usize) -> Result<usize, Refusal>
+    ensures { answer_of result ≡ chunk_written store events.now count room }
 {
-    if !list_ok(events, count) {
-        return refuse(1);
-    }
-    let w = measure(events, count, store);
-    if !w.stored {
-        return refuse(4);
-    }
-    if !w.gaps {
-        return refuse(10);
-    }
-    if !w.fields {
-        return refuse(11);
-    }
-    if !has_room(w.bytes, room) {
-        return refuse(12);
-    }
-    let bytes = HEAD + w.bytes;
-    Chunk {
-        code: 0,
-        bytes: bytes,
-    }
+    ask(list_ok(events, count), Refusal::NotAList)?;
+    let body = measure(events, count, store)?;
+    ask(has_room(body, room), Refusal::OutputShort)?;
+    Ok(HEAD + body)
 }
 
 // A message of two or three bytes.
@@ -280,18 +219,16 @@ fn judge(events: &[i64], count: usize, store: usize, room: usize) -> Chunk
 struct Message {
     status: u8,
     first: u8,
-    second: u8,
-    long: bool,
+    second: Option<u8>,
 }
 
 fn short(status: u8, first: u8) -> Message
     ensures { bytes_of result ≡ status ∷ first ∷ [] }
 {
     Message {
-        status: status,
-        first: first,
-        second: 0,
-        long: false,
+        status,
+        first,
+        second: None,
     }
 }
 
@@ -299,10 +236,9 @@ fn long(status: u8, first: u8, second: u8) -> Message
     ensures { bytes_of result ≡ status ∷ first ∷ second ∷ [] }
 {
     Message {
-        status: status,
-        first: first,
-        second: second,
-        long: true,
+        status,
+        first,
+        second: Some(second),
     }
 }
 
@@ -342,8 +278,7 @@ fn message_of(e: Event) -> Message
     requires { (fits e ≡ true) × (is_channel e.channel ≡ true) }
     ensures { bytes_of result ≡ message_of e }
 {
-    let kind = e.kind;
-    match kind {
+    match e.kind {
         NOTE_ON => long(status(STATUS_NOTE_ON, e.channel), data(e.v1), data(e.v3)),
         NOTE_OFF => long(status(STATUS_NOTE_OFF, e.channel), data(e.v1), 0),
         CONTROL_CHANGE => long(status(STATUS_CONTROL, e.channel), data(e.v1), data(e.v2)),
@@ -359,10 +294,10 @@ fn put_message(out: &mut [u8], at: usize, m: Message) -> usize
 {
     let p = put_byte(out, at, m.status);
     let q = put_byte(out, p, m.first);
-    if m.long {
-        return put_byte(out, q, m.second);
+    match m.second {
+        Some(second) => put_byte(out, q, second),
+        None => q,
     }
-    q
 }
 
 // Puts an event, its gap and its message.
@@ -373,22 +308,8 @@ fn put_event(out: &mut [u8], p: Pen, e: Event) -> Pen
 {
     let gap = e.time - p.time;
     let q = put_quantity(out, p.at, gap as u64);
-    let behind = put_message(out, q, message_of(e));
-    Pen {
-        at: behind,
-        time: e.time,
-    }
-}
-
-// Puts four bytes.
-fn put_four(out: &mut [u8], at: usize, a: u8, b: u8, c: u8, d: u8) -> usize
-    requires { at + 4 ≤ length out.old }
-    ensures { (out.new ≡ laid at (a ∷ b ∷ c ∷ d ∷ []) out.old) × (result ≡ at + 4) }
-{
-    let p = put_byte(out, at, a);
-    let q = put_byte(out, p, b);
-    let s = put_byte(out, q, c);
-    put_byte(out, s, d)
+    let at = put_message(out, q, message_of(e));
+    Pen { at, time: e.time }
 }
 
 // Puts the body of the `count` events at a place and answers the place behind it.
@@ -398,36 +319,20 @@ fn put_body(events: &[i64], count: usize, out: &mut [u8], at: usize) -> usize
     ensures { (out.new ≡ laid at (body_of (events_of events.now count)) out.old)
         × (result ≡ at + length (body_of (events_of events.now count))) }
 {
-    let mut p = Pen { at: at, time: 0 };
-    let mut i: usize = 0;
-    while i < count {
-        let e = read_event(events, i);
-        p = put_event(out, p, e);
-        i += 1;
+    let mut p = Pen { at, time: 0 };
+    for i in 0..count {
+        p = put_event(out, p, read_event(events, i));
     }
-    put_four(out, p.at, 0, 255, 47, 0)
-}
-
-fn low_byte(n: usize) -> u8
-    ensures { result ≡ n % 256 }
-{
-    (n % 256) as u8
+    put(out, p.at, &[0, 255, 47, 0])
 }
 
 // Puts what stands before a body of so many bytes, and answers where that begins.
 fn put_head(out: &mut [u8], body: usize) -> usize
-    requires { head_bytes ≤ length out.old }
+    requires { (head_bytes ≤ length out.old) × (body < length_top) }
     ensures { (out.new ≡ laid 0 (mark ++ big_endian body) out.old) × (result ≡ head_bytes) }
 {
-    let at = put_four(out, 0, b'M', b'T', b'r', b'k');
-    put_four(
-        out,
-        at,
-        low_byte(body / 16777216),
-        low_byte(body / 65536),
-        low_byte(body / 256),
-        low_byte(body),
-    )
+    let at = put(out, 0, b"MTrk");
+    put(out, at, &(body as u32).to_be_bytes())
 }
 
 // Writes the events as a track chunk of Standard MIDI Files 1.0 at the start of `out`, with full status on every event and
@@ -438,11 +343,15 @@ pub fn write_chunk(events: &[i64], count: usize, store: &[u8], out: &mut [u8]) -
     ensures { (result ≡ chunk_written (length store.now) events.now count (length out.old))
         × (out.new ≡ chunk_left (length store.now) events.now count out.old) }
 {
-    let answer = judge(events, count, store.len(), out.len());
-    if answer.code != 0 {
-        return answer;
+    match judge(events, count, store.len(), out.len()) {
+        Ok(bytes) => {
+            let at = put_head(out, bytes - HEAD);
+            put_body(events, count, out, at);
+            Chunk { code: 0, bytes }
+        }
+        Err(refusal) => Chunk {
+            code: refusal.number(),
+            bytes: 0,
+        },
     }
-    let at = put_head(out, answer.bytes - HEAD);
-    put_body(events, count, out, at);
-    answer
 }

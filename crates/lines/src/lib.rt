@@ -110,11 +110,8 @@ fn put_lines(out: &mut [u8], at: usize, events: &[i64], count: usize) -> usize
     ensures { Puts at (flat line_text (events_of events.now count)) out.old out.new result }
 {
     let mut p = at;
-    let mut i: usize = 0;
-    while i < count {
-        let e = read_event(events, i);
-        p = put_line(out, p, e);
-        i += 1;
+    for i in 0..count {
+        p = put_line(out, p, read_event(events, i));
     }
     p
 }
@@ -137,10 +134,10 @@ pub fn put_end(out: &mut [u8], end: Ending, events: &[i64]) -> usize
     let few = end.count <= EVENT_ROOM;
     let there = end.count <= events.len() / WIDTH;
     if !(room & (few & there)) {
-        return 0;
+        0
+    } else if end.code != 0 {
+        put_refusal(out, end.code, end.index)
+    } else {
+        put_done(out, events, end.count, end.budget)
     }
-    if end.code != 0 {
-        return put_refusal(out, end.code, end.index);
-    }
-    put_done(out, events, end.count, end.budget)
 }

@@ -1,6 +1,6 @@
 -- A quantity by its number of bytes, and what is written of one is read back, whatever stands behind it.
-use mathlib.Core.Bool.{Bool, true, false, cond, true≢false}
-use mathlib.Core.Path.{◌≡◌, refl, sym, ap, ◌∙◌}
+use mathlib.Core.Bool.{Bool, true, false, cond}
+use mathlib.Core.Path.{◌≡◌, refl, ap, ◌∙◌}
 use mathlib.Core.List.{List, [], ◌∷◌, ◌++◌}
 use mathlib.Core.Logic.{⊎_elim}
 use Prim.Native.Nat.{ℕ, zero, suc, ◌+◌, ◌*◌, ◌-◌, ◌/◌, ◌%◌, ◌^◌, ◌≤◌, ◌<◌}
@@ -8,10 +8,11 @@ use native.Mathlib.Nat.{pow-suc}
 use native.Mathlib.Numerals.{add-one}
 use native.Mathlib.Omega.{arith}
 use lib.Dec.{ltb, leb}
-use lib.ListN.{length, drop, get_or, drop_of_length-le}
-use lib.Seq.{drop-cons}
+use lib.ListN.{length, take, drop}
 use borrow.Author.Tests.{ltb-true, ltb-false, lt-ltb, le-ltb, le-leb, lt-leb}
+use mir.Val.{bool_byte}
 use Rattle.laws.proofs.Bools.{which}
+use Rattle.std.specs.Prelude.{Option, Some}
 use Rattle.quantities.specs.declared.Quantity.{Quantity}
 use Rattle.quantities.specs.Quantities.{quantity_bytes, quantity_top, followed, lowest1, lowest2, lowest3, lowest4, quantity_of, met, not_met, quantity_from, quantity_in}
 
@@ -49,11 +50,11 @@ module _ (q : ℕ) where
   has4 g = rw (le-ltb q 128 (omega arith), le-ltb q 16384 (omega arith), le-ltb q 2097152 g)
 
 -- one byte, and one more for each of the numbers from which on there is one
-pub bytes_counted : (q : ℕ) → 1 + cond (leb 128 q) 1 0 + cond (leb 16384 q) 1 0 + cond (leb 2097152 q) 1 0 ≡ length (quantity_of q)
+pub bytes_counted : (q : ℕ) → 1 + bool_byte (leb 128 q) + bool_byte (leb 16384 q) + bool_byte (leb 2097152 q) ≡ length (quantity_of q)
 bytes_counted q = case-lt q 128 one (λ a. case-lt q 16384 (two a) (λ b. case-lt q 2097152 (three b) four))
   where
     Counted : Type 0
-    Counted = 1 + cond (leb 128 q) 1 0 + cond (leb 16384 q) 1 0 + cond (leb 2097152 q) 1 0 ≡ length (quantity_of q)
+    Counted = 1 + bool_byte (leb 128 q) + bool_byte (leb 16384 q) + bool_byte (leb 2097152 q) ≡ length (quantity_of q)
 
     one : q < 128 → Counted
     one h = rw (has1 q h, lt-leb 128 q h, lt-leb 16384 q (omega arith), lt-leb 2097152 q (omega arith))
@@ -66,6 +67,25 @@ bytes_counted q = case-lt q 128 one (λ a. case-lt q 16384 (two a) (λ b. case-l
 
     four : 2097152 ≤ q → Counted
     four g = rw (has4 q g, le-leb 128 q (omega arith), le-leb 16384 q (omega arith), le-leb 2097152 q g)
+
+-- all four groups, without those that the shortest form leaves out
+pub lowest : (q : ℕ) → let left_out = 4 - length (quantity_of q) in take (4 - left_out) (drop left_out (lowest4 q)) ≡ quantity_of q
+lowest q = case-lt q 128 one (λ a. case-lt q 16384 (two a) (λ b. case-lt q 2097152 (three b) four))
+  where
+    Lowest : Type 0
+    Lowest = let left_out = 4 - length (quantity_of q) in take (4 - left_out) (drop left_out (lowest4 q)) ≡ quantity_of q
+
+    one : q < 128 → Lowest
+    one h = rw (has1 q h) refl
+
+    two : 128 ≤ q → q < 16384 → Lowest
+    two g h = rw (has2 q g h) refl
+
+    three : 16384 ≤ q → q < 2097152 → Lowest
+    three g h = rw (has3 q g h) refl
+
+    four : 2097152 ≤ q → Lowest
+    four g = rw (has4 q g) refl
 
 -- ---- read back
 ends : (k value used b : ℕ) (l : List ℕ) → b < 128 → quantity_from (suc k) value used (b ∷ l) ≡ met (value * 128 + b) (used + 1)
@@ -111,27 +131,20 @@ module _ (q : ℕ) (l : List ℕ) where
       four : 2097152 ≤ q → quantity_in (quantity_of q ++ l) ≡ met q (length (quantity_of q))
       four a = rw (has4 q a) (back4 h)
 
--- ---- what is read of the bytes from a place on
-module _ (s : List ℕ) (p value used : ℕ) where
-  pub cut_short : (k : ℕ) → length s ≤ p → quantity_from k value used (drop p s) ≡ not_met
+-- ---- what is read of the bytes that are left
+pub nothing_left : (k value used : ℕ) (l : List ℕ) → (0 < k → length l ≡ 0) → quantity_from k value used l ≡ not_met
+unfolding quantity_from
+nothing_left zero value used l h = refl
+nothing_left (suc k) value used [] h = refl
+nothing_left (suc k) value used (b ∷ l) h = let e = h (omega arith) in absurd (cc)
+
+module _ (value used b : ℕ) (rest : List ℕ) (k : ℕ) {n : ℕ} {l : List ℕ} (one : k + 1 ≡ n) (is : l ≡ b ∷ rest) where
+  pub at_last : b < 128 → quantity_from n value used l ≡ met (value * 128 + b) (used + 1)
+  at_last h = rw (← one, is, add-one k) (ends k value used b rest h)
+
+  pub at_more : 128 ≤ b → quantity_from n value used l ≡ quantity_from k (value * 128 + (b - 128)) (used + 1) rest
   unfolding quantity_from
-  cut_short k h = ap (quantity_from k value used) (drop_of_length-le s {i = p} h) ∙ none k
-    where
-      none : (k : ℕ) → quantity_from k value used [] ≡ not_met
-      none zero = refl
-      none (suc k) = refl
-
-  pub used-up : (l : List ℕ) → quantity_from 0 value used l ≡ not_met
-  unfolding quantity_from
-  used-up l = refl
-
-  module _ (k : ℕ) (h : p < length s) where
-    pub at_last : get_or s p 0 < 128 → quantity_from (suc k) value used (drop p s) ≡ met (value * 128 + get_or s p 0) (used + 1)
-    at_last b = ap (quantity_from (suc k) value used) (drop-cons s p 0 h) ∙ ends k value used (get_or s p 0) (drop (suc p) s) b
-
-    pub at_more : 128 ≤ get_or s p 0 → quantity_from (suc k) value used (drop p s) ≡ quantity_from k (value * 128 + (get_or s p 0 - 128)) (used + 1) (drop (suc p) s)
-    unfolding quantity_from
-    at_more b = ap (quantity_from (suc k) value used) (drop-cons s p 0 h) ∙ rw (le-ltb (get_or s p 0) 128 b)
+  at_more h = rw (← one, is, add-one k) (rw (le-ltb b 128 h) refl)
 
 -- ---- a quantity has a byte, and at most four
 either : {A : Type 0} (P : A → Type 0) (t : Bool) (a b : A) → P a → P b → P (cond t a b)
@@ -146,39 +159,40 @@ quantity-size q =
     (either few (ltb q 16384) _ _ (omega arith, omega arith) (either few (ltb q 2097152) _ _ (omega arith, omega arith) (omega arith, omega arith)))
 
 -- ---- of a quantity that is read, the bytes that it takes are there, and are at least one
-quantity-there : (k value used : ℕ) (l : List ℕ) → (quantity_from k value used l).ok ≡ true
-    → (used < (quantity_from k value used l).used) × ((quantity_from k value used l).used ≤ used + length l)
+met-is : (v u : ℕ) (q : Quantity) → met v u ≡ Some q → u ≡ q.used
+met-is v u q e = cc
+
+quantity-there : (k value used : ℕ) (l : List ℕ) (q : Quantity) → quantity_from k value used l ≡ Some q → (used < q.used) × (q.used ≤ used + length l)
 unfolding quantity_from
-quantity-there zero value used l h = absurd (true≢false (sym h))
-quantity-there (suc k) value used [] h = absurd (true≢false (sym h))
-quantity-there (suc k) value used (b ∷ l) h = go (ltb b 128) h (quantity-there k (value * 128 + (b - 128)) (used + 1) l)
+quantity-there zero value used l q h = absurd (cc)
+quantity-there (suc k) value used [] q h = absurd (cc)
+quantity-there (suc k) value used (b ∷ l) q h = go (ltb b 128) h (quantity-there k (value * 128 + (b - 128)) (used + 1) l q)
   where
-    more : Quantity
+    more : Option Quantity
     more = quantity_from k (value * 128 + (b - 128)) (used + 1) l
 
-    go : (t : Bool) → (cond t (met (value * 128 + b) (used + 1)) more).ok ≡ true
-        → (more.ok ≡ true → (used + 1 < more.used) × (more.used ≤ used + 1 + length l))
-        → (used < (cond t (met (value * 128 + b) (used + 1)) more).used) × ((cond t (met (value * 128 + b) (used + 1)) more).used ≤ used + length (b ∷ l))
-    go true g ih = (omega arith, omega arith)
+    go : (t : Bool) → cond t (met (value * 128 + b) (used + 1)) more ≡ Some q → (more ≡ Some q → (used + 1 < q.used) × (q.used ≤ used + 1 + length l))
+        → (used < q.used) × (q.used ≤ used + length (b ∷ l))
+    go true g ih = let e = met-is (value * 128 + b) (used + 1) q g in (omega arith, omega arith)
     go false g ih = let m = ih g in (omega arith, omega arith)
 
-pub quantity-within : (l : List ℕ) → (quantity_in l).ok ≡ true → (0 < (quantity_in l).used) × ((quantity_in l).used ≤ length l)
-quantity-within l h = let w = quantity-there quantity_bytes 0 0 l h in (w.0, omega (arith, w.1))
+pub quantity-within : (l : List ℕ) (q : Quantity) → quantity_in l ≡ Some q → (0 < q.used) × (q.used ≤ length l)
+quantity-within l q h = let w = quantity-there quantity_bytes 0 0 l q h in (w.0, omega (arith, w.1))
 
 -- what stands behind a quantity that is read does not matter to it
-quantity-goes : (k value used : ℕ) (l m : List ℕ) → (quantity_from k value used l).ok ≡ true → quantity_from k value used (l ++ m) ≡ quantity_from k value used l
+quantity-goes : (k value used : ℕ) (l m : List ℕ) (q : Quantity) → quantity_from k value used l ≡ Some q → quantity_from k value used (l ++ m) ≡ Some q
 unfolding quantity_from
-quantity-goes zero value used l m h = absurd (true≢false (sym h))
-quantity-goes (suc k) value used [] m h = absurd (true≢false (sym h))
-quantity-goes (suc k) value used (b ∷ l) m h = go (ltb b 128) h (quantity-goes k (value * 128 + (b - 128)) (used + 1) l m)
+quantity-goes zero value used l m q h = absurd (cc)
+quantity-goes (suc k) value used [] m q h = absurd (cc)
+quantity-goes (suc k) value used (b ∷ l) m q h = go (ltb b 128) h (quantity-goes k (value * 128 + (b - 128)) (used + 1) l m q)
   where
-    more : List ℕ → Quantity
+    more : List ℕ → Option Quantity
     more l = quantity_from k (value * 128 + (b - 128)) (used + 1) l
 
-    go : (t : Bool) → (cond t (met (value * 128 + b) (used + 1)) (more l)).ok ≡ true → ((more l).ok ≡ true → more (l ++ m) ≡ more l)
-        → cond t (met (value * 128 + b) (used + 1)) (more (l ++ m)) ≡ cond t (met (value * 128 + b) (used + 1)) (more l)
-    go true g ih = refl
+    go : (t : Bool) → cond t (met (value * 128 + b) (used + 1)) (more l) ≡ Some q → (more l ≡ Some q → more (l ++ m) ≡ Some q)
+        → cond t (met (value * 128 + b) (used + 1)) (more (l ++ m)) ≡ Some q
+    go true g ih = g
     go false g ih = ih g
 
-pub quantity-alone : (l m : List ℕ) → (quantity_in l).ok ≡ true → quantity_in (l ++ m) ≡ quantity_in l
-quantity-alone l m h = quantity-goes quantity_bytes 0 0 l m h
+pub quantity-alone : (l m : List ℕ) (q : Quantity) → quantity_in l ≡ Some q → quantity_in (l ++ m) ≡ Some q
+quantity-alone l m q h = quantity-goes quantity_bytes 0 0 l m q h

@@ -1,6 +1,6 @@
 -- Standard MIDI Files 1.0, variable-length quantities: a number below 2^28 in groups of seven bits, the highest first; of its bytes
 -- all but the last have their top bit set. 02, b): gaps are written "as variable-length quantities", in their shortest form.
-use Rattle.std.specs.Prelude.{true, false, cond, List, [], ◌∷◌, ℕ, zero, suc, ◌+◌, ◌*◌, ◌-◌, ◌/◌, ◌%◌, ◌^◌, ltb}
+use Rattle.std.specs.Prelude.{Option, Some, None, cond, List, [], ◌∷◌, ℕ, zero, suc, ◌+◌, ◌*◌, ◌-◌, ◌/◌, ◌%◌, ◌^◌, ltb}
 use Rattle.quantities.specs.declared.Quantity.{Quantity}
 
 -- at most four bytes
@@ -38,19 +38,19 @@ quantity_of q = cond (ltb q 128) (lowest1 q) (cond (ltb q 16384) (lowest2 q) (co
 
 -- ---- read
 -- a quantity stands at the front, and has so many bytes; or none does
-abbrev pub met : ℕ → ℕ → Quantity
-met q used = record { ok = true; value = q; used = used }
+abbrev pub met : ℕ → ℕ → Option Quantity
+met q used = Some (record { value = q; used = used })
 
-abbrev pub not_met : Quantity
-not_met = record { ok = false; value = 0; used = 0 }
+abbrev pub not_met : Option Quantity
+not_met = None
 
 -- behind `used` bytes that say `value`, with at most k more: a byte below 128 is the last
-unfoldable pub quantity_from : ℕ → ℕ → ℕ → List ℕ → Quantity
+unfoldable pub quantity_from : ℕ → ℕ → ℕ → List ℕ → Option Quantity
 quantity_from zero value used l = not_met
 quantity_from (suc k) value used [] = not_met
 quantity_from (suc k) value used (b ∷ l) =
     cond (ltb b 128) (met (value * 128 + b) (used + 1)) (quantity_from k (value * 128 + (b - 128)) (used + 1) l)
 
 -- the quantity at the front of a list of bytes, also in a longer form than is needed
-abbrev pub quantity_in : List ℕ → Quantity
+abbrev pub quantity_in : List ℕ → Option Quantity
 quantity_in l = quantity_from quantity_bytes 0 0 l

@@ -23,7 +23,7 @@ use Rattle.reader.proofs.Refusing.{chunk-long}
 
 -- a quantity that takes all of its bytes has one
 some_byte : (q : List ℕ) (v : ℕ) → quantity_in q ≡ met v (length q) → 0 < length q
-some_byte q v e = let w = quantity-within q (rw e) in omega (arith, w.0, ap (λ (n : Quantity). n.used) e)
+some_byte q v e = let n : Quantity = record { value = v; used = length q } in let w = quantity-within q n e in omega (arith, w.0)
 
 one_kept : (time : ℕ) (l : List Event) → Kept kept_in time l → length l ≤ 1
 one_kept time l nothing = omega arith

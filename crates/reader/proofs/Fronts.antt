@@ -194,10 +194,10 @@ module _ {A : Type 0} (make : ℕ → ℕ → ℕ → ℕ → List A) where
   pub behind-gap : (running time v : ℕ) (q x : List ℕ) → quantity_in q ≡ met v (length q) → seen_in make running time (q ++ x) ≡ status_in make running (time + v) v (length q) x
   unfolding seen_in
   behind-gap running time v q x e =
-      let w = quantity-within q (rw e) in
-      let n = length-append q x in
-      let u = ap (λ (n : Quantity). n.used) e in
-      rw (ne_eqb (length (q ++ x)) 0 (λ (z : length (q ++ x) ≡ 0). absurd (omega arith)), quantity-alone q x (rw e), e, drop-append_seam q x)
+      let n : Quantity = record { value = v; used = length q } in
+      let w = quantity-within q n e in
+      let long = length-append q x in
+      rw (ne_eqb (length (q ++ x)) 0 (λ (z : length (q ++ x) ≡ 0). absurd (omega arith)), quantity-alone q x n e, drop-append_seam q x)
 
   -- an event, said by its own bytes whatever stands behind them
   pub record Said (running time : ℕ) (l : List ℕ) : Type 0 where

@@ -1,5 +1,5 @@
 -- What stands at a place of a body, by its first byte: each way out of a function that reads at a place is one of these.
-use mathlib.Core.Bool.{Bool, true, false, cond, ◌&&◌, ◌||◌}
+use mathlib.Core.Bool.{true, false, ◌||◌}
 use mathlib.Core.Path.{◌≡◌, refl, sym, ap, ◌∙◌}
 use mathlib.Core.List.{List, [], ◌∷◌}
 use Prim.Native.Nat.{ℕ, suc, ◌+◌, ◌*◌, ◌≤◌, ◌<◌}
@@ -8,6 +8,7 @@ use borrow.Author.Tests.{lt-ltb, le-ltb, eq-eqb, ne_eqb, le-leb, lt-leb}
 use lib.Dec.{eqb}
 use lib.ListN.{length, drop, get_or, drop_of_length-le, length-drop}
 use lib.Seq.{drop-cons, drop-drop}
+use Rattle.std.specs.Prelude.{Some, None}
 use Rattle.events.specs.declared.Event.{Event}
 use Rattle.quantities.specs.declared.Quantity.{Quantity}
 use Rattle.quantities.specs.Quantities.{quantity_top, met, quantity_from, quantity_in}
@@ -37,44 +38,38 @@ module _ (s : List ℕ) (from used : ℕ) where
       let n : suc (from + used) ≡ from + (used + 1) = omega arith in
       drop-cons s (from + used) 0 h ∙ ap (λ (p : ℕ). get_or s (from + used) 0 ∷ drop p s) n
 
--- ---- what is stepped over
-module _ {A : Type 0} (gap used : ℕ) (l : List ℕ) (n : Quantity) (e : n ≡ quantity_in l) where
-  pub over_none : n.ok ≡ false → fault {A = A} 14 ≡ step_over gap used l
+-- ---- no quantity
+module _ {A : Type 0} (gap used : ℕ) (l : List ℕ) (e : None ≡ quantity_in l) where
+  pub over_none : fault {A = A} 14 ≡ step_over gap used l
   unfolding step_over
-  over_none h = rw (← e, h)
+  over_none = rw (← e)
 
+  pub end_none : fault {A = A} 14 ≡ end_in gap used l
+  unfolding end_in
+  end_none = rw (← e)
+
+-- ---- what is stepped over
+module _ {A : Type 0} (gap used : ℕ) (l : List ℕ) (n : Quantity) (e : Some n ≡ quantity_in l) where
   pub over-short : length l < n.used + n.value → fault {A = A} 14 ≡ step_over gap used l
   unfolding step_over
-  over-short h = rw (← e, lt-leb (n.used + n.value) (length l) h) (go n.ok)
-    where
-      go : (b : Bool) → fault {A = A} 14 ≡ cond (b && false) (seen 0 [] (used + (n.used + n.value)) 0 gap) (fault 14)
-      go true = refl
-      go false = refl
+  over-short h = rw (← e, lt-leb (n.used + n.value) (length l) h)
 
-  pub over-all : n.ok ≡ true → n.used + n.value ≤ length l → seen {A = A} 0 [] (used + (n.used + n.value)) 0 gap ≡ step_over gap used l
+  pub over-all : n.used + n.value ≤ length l → seen {A = A} 0 [] (used + (n.used + n.value)) 0 gap ≡ step_over gap used l
   unfolding step_over
-  over-all h k = rw (← e, h, le-leb (n.used + n.value) (length l) k)
+  over-all k = rw (← e, le-leb (n.used + n.value) (length l) k)
 
   -- ---- the end of track
-  pub end_none : n.ok ≡ false → fault {A = A} 14 ≡ end_in gap used l
-  unfolding end_in
-  end_none h = rw (← e, h)
-
   pub end-long : (n.value ≡ 0 → ⊥) → fault {A = A} 14 ≡ end_in gap used l
   unfolding end_in
-  end-long h = rw (← e, ne_eqb n.value 0 h) (go n.ok)
-    where
-      go : (b : Bool) → fault {A = A} 14 ≡ cond (b && false) (cond (eqb n.used (length l)) (seen 1 [] (used + n.used) 0 gap) (fault 15)) (fault 14)
-      go true = refl
-      go false = refl
+  end-long h = rw (← e, ne_eqb n.value 0 h)
 
-  pub end-behind : n.ok ≡ true → n.value ≡ 0 → (n.used ≡ length l → ⊥) → fault {A = A} 15 ≡ end_in gap used l
+  pub end-behind : n.value ≡ 0 → (n.used ≡ length l → ⊥) → fault {A = A} 15 ≡ end_in gap used l
   unfolding end_in
-  end-behind h k m = rw (← e, h, eq-eqb n.value 0 k, ne_eqb n.used (length l) m)
+  end-behind k m = rw (← e, eq-eqb n.value 0 k, ne_eqb n.used (length l) m)
 
-  pub end-well : n.ok ≡ true → n.value ≡ 0 → n.used ≡ length l → seen {A = A} 1 [] (used + n.used) 0 gap ≡ end_in gap used l
+  pub end-well : n.value ≡ 0 → n.used ≡ length l → seen {A = A} 1 [] (used + n.used) 0 gap ≡ end_in gap used l
   unfolding end_in
-  end-well h k m = rw (← e, h, eq-eqb n.value 0 k, eq-eqb n.used (length l) m)
+  end-well k m = rw (← e, eq-eqb n.value 0 k, eq-eqb n.used (length l) m)
 
 -- ---- a Meta event
 module _ {A : Type 0} (gap used : ℕ) where
@@ -163,17 +158,17 @@ module _ {A : Type 0} (make : ℕ → ℕ → ℕ → ℕ → List A) (running t
   unfolding seen_in
   seen_nothing h = rw (eq-eqb (length l) 0 h)
 
-  module _ (some : 0 < length l) (n : Quantity) (e : n ≡ quantity_in l) where
+  module _ (some : 0 < length l) where
     not_none : eqb (length l) 0 ≡ false
     not_none = ne_eqb (length l) 0 (λ (y : length l ≡ 0). absurd (omega arith))
 
-    pub seen-no-gap : n.ok ≡ false → fault 14 ≡ seen_in make running time l
+    pub seen-no-gap : None ≡ quantity_in l → fault 14 ≡ seen_in make running time l
     unfolding seen_in
-    seen-no-gap h = rw (not_none, ← e, h)
+    seen-no-gap e = rw (not_none, ← e)
 
-    pub seen-behind : n.ok ≡ true → status_in make running (time + n.value) n.value n.used (drop n.used l) ≡ seen_in make running time l
+    pub seen-behind : (n : Quantity) → Some n ≡ quantity_in l → status_in make running (time + n.value) n.value n.used (drop n.used l) ≡ seen_in make running time l
     unfolding seen_in
-    seen-behind h = rw (not_none, ← e, h)
+    seen-behind n e = rw (not_none, ← e)
 
 -- behind a gap of one byte
 module _ {A : Type 0} (make : ℕ → ℕ → ℕ → ℕ → List A) (running time : ℕ) (s : List ℕ) (from : ℕ) where
@@ -186,4 +181,4 @@ module _ {A : Type 0} (make : ℕ → ℕ → ℕ → ℕ → List A) (running t
       let g = get_or s from 0 in
       let n = length-drop from s in
       ap (status_in make running (time + g) g 1) (sym (drop-drop 1 from s))
-      ∙ seen-behind make running time (drop from s) (omega arith) (met g 1) (short-gap g (drop (suc from) s) b ∙ ap quantity_in (sym (drop-cons s from 0 h))) refl
+      ∙ seen-behind make running time (drop from s) (omega arith) (record { value = g; used = 1 }) (short-gap g (drop (suc from) s) b ∙ ap quantity_in (sym (drop-cons s from 0 h)))

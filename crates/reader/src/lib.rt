@@ -76,10 +76,9 @@ fn step_over(s: &[u8], from: usize, used: usize, gap: u64) -> Found
     ensures gap_lt_quantity_top { result.gap < quantity_top }
 {
     let at = from + used;
-    let n = quantity_at(s, at);
-    if !n.ok {
+    let Some(n) = quantity_at(s, at) else {
         return faulty(14);
-    }
+    };
     let bytes = n.used + n.value as usize;
     if s.len() - at < bytes {
         return faulty(14);
@@ -103,10 +102,9 @@ fn end_at(s: &[u8], from: usize, used: usize, gap: u64) -> Found
     ensures gap_lt_quantity_top { result.gap < quantity_top }
 {
     let at = from + used;
-    let n = quantity_at(s, at);
-    if !n.ok {
+    let Some(n) = quantity_at(s, at) else {
         return faulty(14);
-    }
+    };
     if n.value != 0 {
         return faulty(14);
     }
@@ -242,10 +240,9 @@ fn event_at(s: &[u8], from: usize, running: u64) -> Found
     if s.len() <= from {
         return faulty(15);
     }
-    let n = quantity_at(s, from);
-    if !n.ok {
+    let Some(n) = quantity_at(s, from) else {
         return faulty(14);
-    }
+    };
     status_at(s, from, n.used, n.value, running)
 }
 
@@ -340,15 +337,6 @@ fn start() -> Cursor
     }
 }
 
-fn one_if(yes: bool) -> usize
-    ensures { result ≡ cond yes 1 0 }
-{
-    if yes {
-        return 1;
-    }
-    0
-}
-
 // The pass behind what was found where it stands, and whether something is kept of that.
 fn behind(c: Cursor, f: Found, kept: bool) -> Cursor
     requires { Counts c.time f kept × ((c.at + f.used < 18446744073709551616) × ((c.time + f.gap < 9223372036854775808) × (c.kept + 1 < 18446744073709551616))) }
@@ -359,7 +347,7 @@ fn behind(c: Cursor, f: Found, kept: bool) -> Cursor
         at: c.at + f.used,
         status: f.status,
         time: time,
-        kept: c.kept + one_if(kept),
+        kept: c.kept + usize::from(kept),
         late: c.late | (kept & (LATEST < time)),
     }
 }
@@ -490,13 +478,6 @@ fn fill(s: &[u8], events: &mut [i64])
     }
 }
 
-fn wide(b: u8) -> usize
-    ensures value { result ≡ b }
-    ensures upper_bound { result < 256 }
-{
-    b as usize
-}
-
 // Whether the bytes are a chunk of a track, and as many as it says.
 fn is_chunk(chunk: &[u8]) -> bool
     ensures { result ≡ is_chunk chunk.now }
@@ -505,10 +486,7 @@ fn is_chunk(chunk: &[u8]) -> bool
         return false;
     }
     let marked = (chunk[0] == b'M') & (chunk[1] == b'T') & (chunk[2] == b'r') & (chunk[3] == b'k');
-    let body = wide(chunk[4]) * 16777216
-        + wide(chunk[5]) * 65536
-        + wide(chunk[6]) * 256
-        + wide(chunk[7]);
+    let body = u32::from_be_bytes([chunk[4], chunk[5], chunk[6], chunk[7]]) as usize;
     marked & (HEAD + body == chunk.len())
 }
 

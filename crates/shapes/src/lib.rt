@@ -31,9 +31,10 @@ fn cut(x: f32) -> i64
     ensures { result ≡ Ieee.to_signed 63 x }
 {
     if x < 0.0 {
-        return 0 - (std::num::truncating_f32_to_u64(-x) as i64);
+        -(std::num::truncating_f32_to_u64(-x) as i64)
+    } else {
+        std::num::truncating_f32_to_u64(x) as i64
     }
-    std::num::truncating_f32_to_u64(x) as i64
 }
 
 // The value at step `j` of a curve of length `len` from `low` to `high`.

@@ -37,7 +37,7 @@ fn entry_at(quarter: &[u32; 1025], k: usize) -> u64
     requires { (k < 1025) × (quarter.now ≡ quarter_table) }
     ensures { (result ≡ entry k) × (result ≤ top) }
 {
-    quarter[k] as u64
+    u64::from(quarter[k])
 }
 
 // The sine at `q` of `len` of a quarter, times 2^20 * `len`.
@@ -50,10 +50,11 @@ fn sin_at(quarter: &[u32; 1025], q: u64, len: u64) -> u64
     let rest = x % len;
     let a = entry_at(quarter, k);
     if rest == 0 {
-        return a * len;
+        a * len
+    } else {
+        let b = entry_at(quarter, k + 1);
+        a * (len - rest) + b * rest
     }
-    let b = entry_at(quarter, k + 1);
-    a * (len - rest) + b * rest
 }
 
 // 1 less the cosine at `p` of `len` of a full turn, times 2^20 * `len`.
@@ -105,10 +106,8 @@ fn round_away(n: i64, d: u64) -> i64
     requires { (nat_abs n ≤ 2 ^ 14 * d) × (0 < d) × (d ≤ 2 ^ 41) }
     ensures { result ≡ round_away n d }
 {
-    if n < 0 {
-        return 0 - (nearest_of((0 - n) as u64, d) as i64);
-    }
-    nearest_of(n as u64, d) as i64
+    let size = nearest_of(n.unsigned_abs(), d) as i64;
+    if n < 0 { -size } else { size }
 }
 
 // The value at `p` of `len` of a sine between `low` and `high`; it never leaves them. `quarter` is what

@@ -8,17 +8,14 @@ fn glyph(d: u64) -> u8
     requires { d < 10 }
     ensures { result ≡ 48 + d }
 {
-    48 + d as u8
+    b'0' + d as u8
 }
 
 // A number without its sign, also of the least one.
 pub fn size_of(z: i64) -> u64
     ensures { result ≡ nat_abs z }
 {
-    if z < 0 {
-        return ((!z) as u64) + 1;
-    }
-    z as u64
+    z.unsigned_abs()
 }
 
 // Puts one byte.
@@ -35,12 +32,8 @@ pub fn put(out: &mut [u8], at: usize, text: &[u8]) -> usize
     requires { at + length text.now ≤ length out.old }
     ensures { (out.new ≡ laid at text.now out.old) × (result ≡ at + length text.now) }
 {
-    let mut n: usize = 0;
-    while n < text.len() {
-        out[at + n] = text[n];
-        n += 1;
-    }
-    at + n
+    out[at..at + text.len()].copy_from_slice(text);
+    at + text.len()
 }
 
 // Puts a number that has no sign; one of 32 bits goes as 64.
@@ -49,10 +42,11 @@ pub fn put_decimal(out: &mut [u8], at: usize, n: u64) -> usize
     ensures { (out.new ≡ laid at (decimal n) out.old) × (result ≡ at + length (decimal n)) × (result ≤ at + 20) }
 {
     if n < 10 {
-        return put_byte(out, at, glyph(n));
+        put_byte(out, at, glyph(n))
+    } else {
+        let p = put_decimal(out, at, n / 10);
+        put_byte(out, p, glyph(n % 10))
     }
-    let p = put_decimal(out, at, n / 10);
-    put_byte(out, p, glyph(n % 10))
 }
 
 // Puts the sign of a number below 0, and else nothing.
@@ -60,10 +54,7 @@ fn put_sign(out: &mut [u8], at: usize, z: i64) -> usize
     requires { at + 1 ≤ length out.old }
     ensures { (out.new ≡ laid at (sign_of z) out.old) × (result ≡ at + length (sign_of z)) × (result ≤ at + 1) }
 {
-    if z < 0 {
-        return put_byte(out, at, 45);
-    }
-    at
+    if z < 0 { put_byte(out, at, b'-') } else { at }
 }
 
 // Puts a number.
@@ -72,8 +63,7 @@ pub fn put_number(out: &mut [u8], at: usize, z: i64) -> usize
     ensures { (out.new ≡ laid at (number_text z) out.old) × (result ≡ at + length (number_text z)) × (result ≤ at + 21) }
 {
     let p = put_sign(out, at, z);
-    let n = size_of(z);
-    put_decimal(out, p, n)
+    put_decimal(out, p, size_of(z))
 }
 
 // Puts a number and the byte that stands behind it.

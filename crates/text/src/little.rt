@@ -4,20 +4,13 @@ ghost use Rattle.std.specs.Int.{w32, w64};
 ghost use Rattle.std.proofs.Common.{to_z, of_z};
 ghost use Rattle.text.specs.Little.{bits_at, wide_bits_at, number_at, word_at};
 
-fn wide(b: u8) -> u32
-    ensures value { result ≡ b }
-    ensures upper_bound { result < 256 }
-{
-    b as u32
-}
-
 // Four bytes from `at` on: the bits of a number.
 pub fn bits_at(s: &[u8], at: usize) -> u32
     requires { at + 4 ≤ length s.now }
     ensures value { result ≡ bits_at s.now at }
     ensures upper_bound { result < 4294967296 }
 {
-    wide(s[at]) + 256 * wide(s[at + 1]) + 65536 * wide(s[at + 2]) + 16777216 * wide(s[at + 3])
+    u32::from_le_bytes([s[at], s[at + 1], s[at + 2], s[at + 3]])
 }
 
 // Eight bytes from `at` on.
@@ -25,39 +18,37 @@ pub fn wide_bits_at(s: &[u8], at: usize) -> u64
     requires { at + 8 ≤ length s.now }
     ensures { result ≡ wide_bits_at s.now at }
 {
-    let low = bits_at(s, at) as u64;
-    let high = bits_at(s, at + 4) as u64;
-    low + 4294967296 * high
+    u64::from_le_bytes([
+        s[at],
+        s[at + 1],
+        s[at + 2],
+        s[at + 3],
+        s[at + 4],
+        s[at + 5],
+        s[at + 6],
+        s[at + 7],
+    ])
 }
 
 // The number of 32 bits whose bits these are.
 pub fn signed(n: u32) -> i32
     ensures { result ≡ to_z w32 n }
 {
-    if n < 2147483648 {
-        return n as i32;
-    }
-    !((4294967295 - n) as i32)
+    n.cast_signed()
 }
 
 // The number of 64 bits whose bits these are.
 pub fn wide_signed(n: u64) -> i64
     ensures { result ≡ to_z w64 n }
 {
-    if n < 9223372036854775808 {
-        return n as i64;
-    }
-    !((18446744073709551615 - n) as i64)
+    n.cast_signed()
 }
 
 // The bits of a number of 32 bits.
 pub fn bits_of(z: i32) -> u32
     ensures { result ≡ of_z w32 z }
 {
-    if z < 0 {
-        return 4294967295 - ((!z) as u32);
-    }
-    z as u32
+    z.cast_unsigned()
 }
 
 // The number of four bytes at `at`.

@@ -53,15 +53,15 @@ returns-in-0 c =
     (λ q. rw q)
     (λ q. rw q)
     e.kind
-    (lt-back-l (pos 0) f c.in-0.if-kind-lt0-own.false)
-    (lt-back-l (pos 4) f c.in-0.if-kind-lt4-own.true)
+    (lt-back-l (pos 0) f c.in-0.if-e-lt0-own.false)
+    (lt-back-l (pos 4) f c.in-0.if-e-lt4-own.true)
     refl
 
 pub returns-in_default : goal.returns-in_default
 unfolding message_of
 returns-in_default c =
     let k = c.args.e.kind in
-    let l = lt-back-l (pos 0) (kind_fits-at-3 c) c.in_default.if-kind-lt0-own.true in
+    let l = lt-back-l (pos 0) (kind_fits-at-3 c) c.in_default.if-e-lt0-own.true in
     rw (
       below-not 0 0 k l (omega arith),
       below-not 0 1 k l (omega arith),
@@ -75,7 +75,7 @@ unfolding message_of
 returns-in_default-2 c =
     let f = kind_fits-at-4 c in
     let k = c.args.e.kind in
-    let l = lt-back-l (pos 4) f c.in_default.if-kind-lt4-own.false in
+    let l = lt-back-l (pos 4) f c.in_default.if-e-lt4-own.false in
     rw (
       above-not 4 0 k l (omega arith),
       above-not 4 1 k l (omega arith),

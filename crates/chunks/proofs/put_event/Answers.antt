@@ -38,9 +38,9 @@ put_quantity-q-requires c =
     let n = gap-cut e.time t w.time w.before 268435455 w.follows in
     omega (arith, c.requires.1, length-append (quantity_of (gap_after t e)) (message_of e), ap (λ (k : ℕ). length (quantity_of k)) n)
 
-pub put_message-behind-requires : goal.put_message-behind-requires
+pub put_message-at-requires : goal.put_message-at-requires
 unfolding written_after
-put_message-behind-requires c =
+put_message-at-requires c =
     let w = c.requires.0 in
     let e = c.args.e in
     let t = c.args.p.time in
@@ -60,7 +60,7 @@ returns c =
     let o = a.out.now in
     let n = gap-cut a.e.time t w.time w.before 268435455 w.follows in
     let g = c.put_quantity-q.ensures in
-    let p = c.put_message-behind.ensures in
+    let p = c.put_message-at.ensures in
     let y = c.message_of.ensures in
     let h : a.p.at ≤ length o = omega (arith, c.requires.1) in
     let b =

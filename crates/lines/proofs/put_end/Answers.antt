@@ -30,8 +30,8 @@ put_done-requires c =
     let r = room a.end.count a.events.now a.out.now fits in
     (r.there, omega (arith, r.long, r.few))
 
-pub returns : goal.returns
-returns c =
+pub returns-else-end-ne0 : goal.returns-else-end-ne0
+returns-else-end-ne0 c =
     let a = c.args in
     let fits = sym (tested a.end.count a.events.now a.out.now) ∙ c.if-not-room-few.false in
     rw (← done a.end a.events.now a.out.now fits c.if-end-ne0.false) c.put_done.ensures

@@ -13,8 +13,8 @@ use Rattle.lines.proofs.put_lines.Goals as goal
 pub loop-i-init : goal.loop-i-init
 loop-i-init c = let a = c.args in no_lines a.at (events_of a.events.now a.count) a.out.now
 
-pub read_event-e-requires : goal.read_event-e-requires
-read_event-e-requires c =
+pub read_event-requires : goal.read_event-requires
+read_event-requires c =
     let h : c.loop-i.i < c.args.count = search rules in
     omega (arith, c.requires.0)
 
@@ -29,8 +29,8 @@ loop-i-preserved c =
     let h : c.loop-i.i < c.args.count = search rules in
     let n = length-take-le c.args.count rows c.requires.0 in
     let t = c.put_line-p in
-    let e : c.read_event-e.result ≡ get_or (take c.args.count rows) c.loop-i.i zero_event =
-    c.read_event-e.ensures ∙ sym (get_or-take c.args.count rows c.loop-i.i zero_event h) in
+    let e : c.read_event.result ≡ get_or (take c.args.count rows) c.loop-i.i zero_event =
+    c.read_event.ensures ∙ sym (get_or-take c.args.count rows c.loop-i.i zero_event h) in
     one_line c.args.at (take c.args.count rows) c.args.out.now (omega (arith, c.requires.1)) c.loop-i.invariant (omega (arith, n)) c.out-1.given (rw e at t.ensures.puts) t.ensures.upper_bound
 
 pub shape_of-out : goal.shape_of-out

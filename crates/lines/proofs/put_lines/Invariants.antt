@@ -1,11 +1,7 @@
--- `put_lines` puts a line a turn behind those that stand (`Lines`). The measure is the events that are left.
-use Prim.Native.Nat.{◌-◌}
+-- `put_lines` puts a line a turn behind those that stand (`Lines`).
 use Rattle.eventlist.specs.Rows.{events_of}
 use Rattle.lines.proofs.Putting.{Lines}
 use Rattle.lines.proofs.put_lines.Given as goal
 
 abbrev pub invariant-loop-i : goal.invariant-loop-i
 invariant-loop-i l = Lines l.at (events_of l.events l.count) l.initial.out l.out l.p l.i
-
-abbrev pub decreases-loop-i : goal.decreases-loop-i
-decreases-loop-i l = l.count - l.i

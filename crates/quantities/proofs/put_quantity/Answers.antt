@@ -1,27 +1,19 @@
--- `put_quantity`: each case of the definition by the function that puts so many groups.
-use Rattle.quantities.proofs.Groups.{has1, has2, has3, has4}
+-- `put_quantity`: one group, or all four without those that the shortest form leaves out (`lowest`).
+use Rattle.std.proofs.Common.{◌≡◌, ◌%◌, arith}
+use Rattle.quantities.proofs.Groups.{has1, quantity-size, lowest}
 use Rattle.quantities.proofs.put_quantity.Goals as goal
 
-pub put1-requires : goal.put1-requires
-put1-requires c = rw (has1 c.args.q c.if-q-lt-TWO.true) at c.requires
+pub put_byte-requires : goal.put_byte-requires
+put_byte-requires c = rw (has1 c.args.q c.if-q-lt-TWO.true) at c.requires
+
+pub overflow_sub-quantity_size : goal.overflow_sub-quantity_size
+overflow_sub-quantity_size c = omega (arith, quantity-size c.args.q)
 
 pub returns-then-q-lt-TWO : goal.returns-then-q-lt-TWO
-returns-then-q-lt-TWO c = rw (has1 c.args.q c.if-q-lt-TWO.true) c.put1.ensures
+returns-then-q-lt-TWO c =
+    let low : c.args.q % 128 ≡ c.args.q = omega arith in
+    rw (has1 c.args.q c.if-q-lt-TWO.true, low) c.put_byte.ensures
 
-pub put2-requires : goal.put2-requires
-put2-requires c = rw (has2 c.args.q c.if-q-lt-TWO.false c.if-q-lt-THREE.true) at c.requires
-
-pub returns-then-q-lt-THREE : goal.returns-then-q-lt-THREE
-returns-then-q-lt-THREE c = rw (has2 c.args.q c.if-q-lt-TWO.false c.if-q-lt-THREE.true) c.put2.ensures
-
-pub put3-requires : goal.put3-requires
-put3-requires c = rw (has3 c.args.q c.if-q-lt-THREE.false c.if-q-lt-FOUR.true) at c.requires
-
-pub returns-then-q-lt-FOUR : goal.returns-then-q-lt-FOUR
-returns-then-q-lt-FOUR c = rw (has3 c.args.q c.if-q-lt-THREE.false c.if-q-lt-FOUR.true) c.put3.ensures
-
-pub put4-requires : goal.put4-requires
-put4-requires c = rw (has4 c.args.q c.if-q-lt-FOUR.false) at c.requires
-
-pub returns : goal.returns
-returns c = rw (has4 c.args.q c.if-q-lt-FOUR.false) c.put4.ensures
+pub returns-else-q-lt-TWO : goal.returns-else-q-lt-TWO
+returns-else-q-lt-TWO c =
+    rw (c.quantity_size.ensures, c.group.ensures.value, c.group-else-q-lt-TWO.ensures.value, c.group-else-q-lt-TWO-2.ensures.value, lowest c.args.q) at c.put.ensures

@@ -6,25 +6,25 @@ use Rattle.laws.proofs.Signed.{mag-sub}
 use Rattle.shapes.proofs.Cutting.{Whole, minus, at-least-nought, below-nought}
 use Rattle.shapes.proofs.cut.Goals as goal
 
-under : (c : goal.Then-x) → Whole (neg c.args.x) (2 ^ 24) minus (to_signed 63 c.args.x)
+pub truncating_f32_to_u64-requires : goal.truncating_f32_to_u64-requires
 unfolding of_bits
-under c = below-nought c.args.x (2 ^ 24) c.requires (lit< tt) c.if-x.true
+truncating_f32_to_u64-requires c =
+    let w = below-nought c.args.x (2 ^ 24) c.requires (lit< tt) c.if-x.true in
+    record { lower_bound = w.above; upper_bound = w.below }
 
-under-at-2 : (c : goal.After-truncating_f32_to_u64) → Whole (neg c.args.x) (2 ^ 24) minus (to_signed 63 c.args.x)
+pub truncating_f32_to_u64-requires-else-x : goal.truncating_f32_to_u64-requires-else-x
 unfolding of_bits
-under-at-2 c = below-nought c.args.x (2 ^ 24) c.requires (lit< tt) c.if-x.true
-
-over : (c : goal.Else-x) → Whole c.args.x (2 ^ 24) pos (to_signed 63 c.args.x)
-unfolding of_bits
-over c = at-least-nought c.args.x (2 ^ 24) c.requires (lit< tt) c.if-x.false
-
-over-at-2 : (c : goal.After-truncating_f32_to_u64-2) → Whole c.args.x (2 ^ 24) pos (to_signed 63 c.args.x)
-unfolding of_bits
-over-at-2 c = at-least-nought c.args.x (2 ^ 24) c.requires (lit< tt) c.if-x.false
+truncating_f32_to_u64-requires-else-x c =
+    let w = at-least-nought c.args.x (2 ^ 24) c.requires (lit< tt) c.if-x.false in
+    record { lower_bound = w.above; upper_bound = w.below }
 
 module _ (c : goal.After-truncating_f32_to_u64) where
+  under : Whole (neg c.args.x) (2 ^ 24) minus (to_signed 63 c.args.x)
+  unfolding of_bits
+  under = below-nought c.args.x (2 ^ 24) c.requires (lit< tt) c.if-x.true
+
   small : c.truncating_f32_to_u64.result ≤ 2 ^ 24
-  small = rw c.truncating_f32_to_u64.ensures (under-at-2 c).small
+  small = rw c.truncating_f32_to_u64.ensures under.small
 
   reads : to_z w64 c.truncating_f32_to_u64.result ≡ pos c.truncating_f32_to_u64.result
   reads = to_z_pos w64 (omega (arith, small))
@@ -32,26 +32,25 @@ module _ (c : goal.After-truncating_f32_to_u64) where
   fits : SFits w64 (minus c.truncating_f32_to_u64.result)
   fits = omega (arith, small, mag-sub (pos 0) (pos c.truncating_f32_to_u64.result))
 
-small-2 : (c : goal.After-truncating_f32_to_u64-2) → c.truncating_f32_to_u64-2.result ≤ 2 ^ 24
-small-2 c = rw c.truncating_f32_to_u64-2.ensures (over-at-2 c).small
-
-pub truncating_f32_to_u64-requires : goal.truncating_f32_to_u64-requires
-truncating_f32_to_u64-requires c = record { lower_bound = (under c).above; upper_bound = (under c).below }
-
-pub returns-then-x : goal.returns-then-x
-returns-then-x c = rw (reads c) (to_z-of_z (fits c) ∙ ap minus c.truncating_f32_to_u64.ensures ∙ (under-at-2 c).is)
-
 pub overflow_cast-result : goal.overflow_cast-result
 overflow_cast-result c = omega (arith, small c)
+
+pub overflow_cast-result-else-x : goal.overflow_cast-result-else-x
+unfolding of_bits
+overflow_cast-result-else-x c =
+    let w = at-least-nought c.args.x (2 ^ 24) c.requires (lit< tt) c.if-x.false in
+    let small : c.truncating_f32_to_u64-else-x.result ≤ 2 ^ 24 = rw c.truncating_f32_to_u64-else-x.ensures w.small in
+    omega arith
 
 pub overflow_sub-result : goal.overflow_sub-result
 overflow_sub-result c = rw (reads c) (fits c)
 
-pub truncating_f32_to_u64-requires-2 : goal.truncating_f32_to_u64-requires-2
-truncating_f32_to_u64-requires-2 c = record { lower_bound = (over c).above; upper_bound = (over c).below }
+pub returns-then-x : goal.returns-then-x
+returns-then-x c = rw (reads c) (to_z-of_z (fits c) ∙ ap minus c.truncating_f32_to_u64.ensures ∙ (under c).is)
 
-pub overflow_cast-result-2 : goal.overflow_cast-result-2
-overflow_cast-result-2 c = omega (arith, small-2 c)
-
-pub returns : goal.returns
-returns c = to_z_pos w64 (omega (arith, small-2 c)) ∙ ap pos c.truncating_f32_to_u64-2.ensures ∙ (over-at-2 c).is
+pub returns-else-x : goal.returns-else-x
+unfolding of_bits
+returns-else-x c =
+    let w = at-least-nought c.args.x (2 ^ 24) c.requires (lit< tt) c.if-x.false in
+    let small : c.truncating_f32_to_u64-else-x.result ≤ 2 ^ 24 = rw c.truncating_f32_to_u64-else-x.ensures w.small in
+    to_z_pos w64 (omega (arith, small)) ∙ ap pos c.truncating_f32_to_u64-else-x.ensures ∙ w.is

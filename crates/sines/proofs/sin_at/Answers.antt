@@ -36,19 +36,7 @@ overflow_add-k c = omega (arith, place c.args.q c.args.len c.requires.2)
 pub entry_at-b-requires : goal.entry_at-b-requires
 entry_at-b-requires c = (omega (arith, place-next c.args.q c.args.len c.requires.2 c.if-rest-eq0.false), c.requires.3)
 
-pub overflow_sub-result : goal.overflow_sub-result
-overflow_sub-result c = rest_le c
-
-pub overflow_mul-result-2 : goal.overflow_mul-result-2
-overflow_mul-result-2 c = omega (arith, sum-le c)
-
-pub overflow_mul-result-3 : goal.overflow_mul-result-3
-overflow_mul-result-3 c = omega (arith, sum-le c)
-
-pub overflow_add-result : goal.overflow_add-result
-overflow_add-result c = omega (arith, sum-le c)
-
-pub returns : goal.returns
-returns c =
+pub returns-else-rest-eq0 : goal.returns-else-rest-eq0
+returns-else-rest-eq0 c =
     let s = c.args in
     (between s.q s.len c.entry_at-a.ensures.0 c.entry_at-b.ensures.0, sum-le c)

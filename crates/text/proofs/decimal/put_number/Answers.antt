@@ -12,7 +12,7 @@ unfolding number_text
 returns c =
     let a = c.args in
     let z = to_z-of_z c.ranges.z in
-    let n = c.size_of-n.ensures ∙ ap nat_abs z in
+    let n = c.size_of.ensures ∙ ap nat_abs z in
     let g = c.put_sign-p.ensures in
     let p = c.put_decimal.ensures in
     let b =

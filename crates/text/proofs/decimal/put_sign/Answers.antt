@@ -17,8 +17,8 @@ returns-then-z-lt0 c =
     let p = c.put_byte.ensures in
     (p.0 ∙ ap (λ (t : List ℕ). laid a.at t a.out.now) e, p.1 ∙ ap (λ (t : List ℕ). a.at + length t) e, omega (arith, p.1))
 
-pub returns : goal.returns
-returns c =
+pub returns-else-z-lt0 : goal.returns-else-z-lt0
+returns-else-z-lt0 c =
     let a = c.args in
     let e = sign_above a.z (rw (to_z-of_z c.ranges.z) at c.if-z-lt0.false) in
     (rw (← e) (laid_none a.at a.out.now), rw (← e) (omega arith), omega arith)
