@@ -278,7 +278,7 @@ pub fn lesser(a: u64, b: u64) -> u64
 pub fn gains(b: Budget, owes: u64) -> u64
     ensures { result ≡ min (room value_bytes b) (min cycle_writes owes) }
 {
-    let most = budget::remaining_event_capacity(b) as u64;
+    let most = u64::from(b.remaining_event_capacity());
     let least = lesser(owes, most);
     lesser(least, CYCLE_WRITES)
 }
