@@ -1,5 +1,5 @@
 -- A run in one pass, as the code goes: a walk takes one offer at a time. proofs/Closed says that it comes to the closed form.
-use Rattle.std.specs.Prelude.{Bool, true, cond, List, [], ◌∷◌, ◌++◌, ℕ, ◌+◌, length, take, drop}
+use Rattle.std.specs.Prelude.{Bool, cond, is_some, unwrap_or, Some, pos, List, [], ◌∷◌, ◌++◌, ℕ, ◌+◌, length, take, drop}
 use Rattle.budget.specs.Budgets.{fits}
 use Rattle.events.specs.declared.Event.{Event}
 use Rattle.values.specs.declared.Offer.{Offer}
@@ -8,11 +8,11 @@ use Rattle.offers.specs.declared.Walk.{Walk}
 use Rattle.offers.specs.Rules.{Rule, same}
 
 abbrev pub dropped : Rule → Walk → Offer → Bool
-dropped r k o = same r.all k.any k.last o.value
+dropped r k o = same r.all (is_some k.last) (unwrap_or k.last (pos 0)) o.value
 
 -- the walk after one offer, and what that writes
 unfoldable pub advance : Rule → Walk → Offer → Walk
-advance r k o = cond (dropped r k o) k (record { any = true; last = o.value; budget = paid r.size r.next k.budget })
+advance r k o = cond (dropped r k o) k (record { last = Some o.value; budget = paid r.size r.next k.budget })
 
 unfoldable pub emit : Rule → Walk → Offer → List Event
 emit r k o = cond (dropped r k o) [] (cond (fits r.size k.budget) (r.events o (r.next k.budget.seed)) [])
