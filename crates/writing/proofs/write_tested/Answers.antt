@@ -3,7 +3,6 @@ use mathlib.Core.Path.{◌≡◌, sym, ap, ◌∙◌}
 use mathlib.Core.List.{List, [], ◌∷◌}
 use native.Mathlib.Omega.{arith}
 use borrow.Author.Tests.{not-false}
-use borrow.Author.Rules.{rules}
 use Rattle.laws.proofs.Tests.{no, yes}
 use Rattle.eventlist.specs.declared.Window.{Window}
 use Rattle.eventlist.specs.Windows.{windows_of}
@@ -38,7 +37,7 @@ returns-then-not-seen c =
     let a = c.args in
     let s = (goal.at.returns-then-not-seen c).After-survey-seen in
     let f = fails a.store a.w a.b a.events.now a.count (ts s) (no (ok s) c.if-not-seen.true) in
-    (sym f.0, sym f.1)
+    rw c.number.ensures (sym f.0, sym f.1)
 
 pub write_core-requires-clause-windows_value : goal.write_core-requires-clause-windows_value
 write_core-requires-clause-windows_value c =
