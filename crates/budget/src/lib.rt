@@ -9,6 +9,8 @@ ghost use Rattle.std.specs.Int.Signed.{mag};
 ghost use Rattle.numbers.specs.Limits.{value_bytes};
 ghost use Rattle.budget.specs.Budgets.{new_budget, ok_budget, free, room, step_budget, stepped, fits, reserved, rolled};
 
+use numbers::Refusal;
+
 // `used` may exceed `maximum`; `over` is 1 once a write did not fit, else 0.
 #[repr(C)]
 #[derive(Clone, Copy)]
@@ -27,7 +29,8 @@ pub struct BudgetAnswer {
     pub budget: Budget,
 }
 
-// What asking for bytes gives.
+// What asking for bytes gives. The budget is the one to go on with either way, so `fits` stands beside it: an `Option` of the
+// budget would lose the flag that was set.
 #[derive(Clone, Copy)]
 pub struct Reserved {
     pub budget: Budget,
@@ -41,78 +44,76 @@ pub struct Rolled {
     pub budget: Budget,
 }
 
+// How many bytes the event of a controller or a bend takes.
+pub const VALUE_BYTES: u32 = 8;
+
 impl Budget {
     // Nothing used yet, the flag clear. Refuses 4, and then hands back a budget of zeros.
+    #[tactic(auto, unfolding(crate::specs::Budgets::new_budget))]
     pub fn new(seed: u32, maximum: u32) -> BudgetAnswer
         ensures { result ≡ new_budget seed maximum }
     {
-        if !numbers::is_bytes(maximum) {
-            let none = Budget {
-                seed: 0,
-                maximum: 0,
-                used: 0,
-                over: 0,
-            };
-            return BudgetAnswer {
-                code: 4,
-                budget: none,
-            };
+        if numbers::is_bytes(maximum) {
+            BudgetAnswer {
+                code: 0,
+                budget: Budget {
+                    seed,
+                    maximum,
+                    used: 0,
+                    over: 0,
+                },
+            }
+        } else {
+            BudgetAnswer {
+                code: Refusal::OutOfRange.number(),
+                budget: Budget {
+                    seed: 0,
+                    maximum: 0,
+                    used: 0,
+                    over: 0,
+                },
+            }
         }
-        let made = Budget {
-            seed: seed,
-            maximum: maximum,
-            used: 0,
-            over: 0,
-        };
-        BudgetAnswer {
-            code: 0,
-            budget: made,
+    }
+
+    // The bytes left: maximum less used, at least 0.
+    pub fn free_bytes(self) -> u32
+        ensures { result ≡ free self }
+    {
+        self.maximum.saturating_sub(self.used)
+    }
+
+    // How many controllers' or bends' events still fit.
+    pub fn remaining_event_capacity(self) -> u32
+        ensures { result ≡ room value_bytes self }
+    {
+        self.free_bytes() / VALUE_BYTES
+    }
+
+    // The budget with its seed stepped once.
+    pub fn stepped(self) -> Budget
+        ensures { result ≡ stepped self }
+    {
+        Budget {
+            seed: numbers::next_rand(self.seed),
+            ..self
         }
     }
 }
 
 // Whether maximum, bytes used and flag are within their ranges.
+#[tactic(auto, unfolding(crate::specs::Budgets::ok_budget))]
 pub fn budget_ok(b: Budget) -> bool
     ensures { result ≡ ok_budget b }
 {
     numbers::is_bytes(b.maximum) & numbers::is_bytes(b.used) & (b.over <= 1)
 }
 
-// The bytes left: maximum less used, at least 0.
-pub fn free_bytes(b: Budget) -> u32
-    ensures { result ≡ free b }
-{
-    if b.used <= b.maximum {
-        return b.maximum - b.used;
-    }
-    0
-}
-
-// How many controllers' or bends' events still fit.
-pub fn remaining_event_capacity(b: Budget) -> u32
-    ensures { result ≡ room value_bytes b }
-{
-    free_bytes(b) / 8
-}
-
 // How many steps a run of writes may take: one more than fit, so that it finds out that the budget is spent.
 pub fn safe_iteration_limit(b: Budget) -> u32
     ensures { result ≡ step_budget b }
 {
-    remaining_event_capacity(b) + 1
-}
-
-// The budget with its seed stepped once.
-pub fn step_seed(b: Budget) -> Budget
-    ensures { result ≡ stepped b }
-{
-    let seed = numbers::next_rand(b.seed);
-    Budget {
-        seed: seed,
-        maximum: b.maximum,
-        used: b.used,
-        over: b.over,
-    }
+    b.remaining_event_capacity() + 1
 }
 
 // `value` moved by random over `width`, and the budget with its seed stepped. A width of 0 or less gives the
@@ -122,16 +123,13 @@ pub fn calc_rand_value(b: Budget, value: i64, width: i64) -> Rolled
     ensures { result ≡ rolled value width b }
 {
     if width <= 0 {
-        return Rolled {
-            value: value,
-            budget: b,
-        };
-    }
-    let next = step_seed(b);
-    let v = numbers::spread(value, width, next.seed);
-    Rolled {
-        value: v,
-        budget: next,
+        Rolled { value, budget: b }
+    } else {
+        let next = b.stepped();
+        Rolled {
+            value: numbers::spread(value, width, next.seed),
+            budget: next,
+        }
     }
 }
 
@@ -139,26 +137,18 @@ pub fn calc_rand_value(b: Budget, value: i64, width: i64) -> Rolled
 pub fn reserve_event(b: Budget, size: u32) -> Reserved
     ensures { (result.budget ≡ reserved size b) × (result.fits ≡ fits size b) }
 {
-    if size <= free_bytes(b) {
-        let after = Budget {
-            seed: b.seed,
-            maximum: b.maximum,
-            used: b.used + size,
-            over: b.over,
-        };
-        return Reserved {
-            budget: after,
+    if size <= b.free_bytes() {
+        Reserved {
+            budget: Budget {
+                used: b.used + size,
+                ..b
+            },
             fits: true,
-        };
-    }
-    let after = Budget {
-        seed: b.seed,
-        maximum: b.maximum,
-        used: b.used,
-        over: 1,
-    };
-    Reserved {
-        budget: after,
-        fits: false,
+        }
+    } else {
+        Reserved {
+            budget: Budget { over: 1, ..b },
+            fits: false,
+        }
     }
 }

@@ -2,7 +2,8 @@
 -- writes leave (`Running`). A write that fits puts one event behind the list (`put`), one that does not changes no event
 -- (`skip`); both advance the record.
 use mathlib.Core.Path.{◌≡◌, refl, sym, ap, ◌∙◌}
-use mathlib.Core.Bool.{Bool, true, false, cond}
+use mathlib.Core.Bool.{Bool, true, false, cond, true≢false}
+use mathlib.Core.Logic.{⊎_elim}
 use mathlib.Core.List.{List, [], ◌∷◌, ◌++◌}
 use Prim.Native.Nat.{ℕ, ◌+◌, ◌-◌, ◌≤◌, ◌<◌, max}
 use native.Mathlib.Omega.{arith}
@@ -10,7 +11,9 @@ use lib.Dec.{T}
 use lib.Signed.{le_z, lt_z}
 use lib.ListN.{length, take, length-append, take-append-drop}
 use lib.Seq.{length-take-le}
+use Rattle.std.specs.Prelude.{Option, Some, None, is_some, unwrap_or}
 use Rattle.laws.specs.Lists.{put_first}
+use Rattle.laws.proofs.Bools.{which}
 use Rattle.laws.proofs.Compact.{put_one}
 use Rattle.laws.proofs.Firsts.{length-put_first}
 use Rattle.numbers.specs.Limits.{value_bytes}
@@ -30,6 +33,15 @@ use Rattle.cycles.proofs.Count.{count-advanced, test-yes, test-no, after_more, r
 use Rattle.cycles.proofs.Rules.{sound}
 use Rattle.cycles.proofs.Fitting.{late, early, kept}
 use Rattle.cycles.proofs.Push.{push_all-append}
+
+-- ---- an event that stands only where it fits
+from_some : (t : Bool) (x e : Event) → cond t (Some x) None ≡ Some e → (t ≡ true) × (x ≡ e)
+from_some true x e q = (refl, ap (λ (o : Option Event). unwrap_or o x) q)
+from_some false x e q = absurd (true≢false (sym (ap (λ (o : Option Event). is_some o) q)))
+
+from-none : (t : Bool) (x : Event) → cond t (Some x) None ≡ None → t ≡ false
+from-none true x q = absurd (true≢false (ap (λ (o : Option Event). is_some o) q))
+from-none false x q = refl
 
 -- ---- events only come in behind
 
@@ -96,30 +108,21 @@ module _ (ask : Ask) (c : Cycle) (b : Budget) (rs : List Event) (count : ℕ) wh
       }
 
   module _ (most : ℕ) (cycle : Cycle) (budget : Budget) (now : List Event) (n k : ℕ) (v : Running most cycle budget now n k) where
-    -- the end: no more may be made, or none is due
-    ended : k ≡ made ask most c
+    -- the end: all that are due, at most `most`, are made
+    pub ended : k ≡ made ask most c
         → (record { cycle = cycle; made = k; budget = budget; count = n } ≡ ran_of ask (made ask most c) c b (take count rs))
         × (now ≡ put_first zero_event count (sofar (made ask most c)).events rs)
     unfolding ran_of
     ended e = rw (← e) (rw (v.here, v.spent, v.counted), v.rows)
 
-    pub full : most ≤ k
-        → (record { cycle = cycle; made = k; budget = budget; count = n } ≡ ran_of ask (made ask most c) c b (take count rs))
-        × (now ≡ put_first zero_event count (sofar (made ask most c)).events rs)
-    full h = ended (omega (arith, v.owes, v.upto))
+    module _ (some : k < made ask most c) where
+      not_late : lt_z ask.until cycle.next ≡ false
+      not_late =
+          ⊎_elim (λ t. absurd (omega (arith, v.owes, test-no ask.until cycle (late cycle.next ask.until t)))) (λ t. t)
+          (which (lt_z ask.until cycle.next))
 
-    pub idle : lt_z ask.until cycle.next ≡ true
-        → (record { cycle = cycle; made = k; budget = budget; count = n } ≡ ran_of ask (made ask most c) c b (take count rs))
-        × (now ≡ put_first zero_event count (sofar (made ask most c)).events rs)
-    idle t = ended (omega (arith, v.owes, v.upto, test-no ask.until cycle (late cycle.next ask.until t)))
-
-    module _ (less : k < most) (t : lt_z ask.until cycle.next ≡ false) where
       due : T (le_z cycle.next ask.until)
-      due = early cycle.next ask.until t
-
-      -- not yet at the end
-      some : k < made ask most c
-      some = omega (arith, v.owes, test-yes ask.until cycle due)
+      due = early cycle.next ask.until not_late
 
       -- what the state of one more write is, by what the code's step gives
       next : wrote (turn_of ask) (write_of cycle) (sofar k) ≡ sofar (k + 1)
@@ -129,17 +132,23 @@ module _ (ask : Ask) (c : Cycle) (b : Budget) (rs : List Event) (count : ℕ) wh
       unfolding step_of wrote_of wrote turn
       spent-more = rw v.spent (ap (λ (s : State Event). s.budget) next)
 
-      events-put : (step_of cycle ask budget).fits ≡ true → (sofar (k + 1)).events ≡ (sofar k).events ++ ((step_of cycle ask budget).event ∷ [])
-      unfolding step_of wrote_of wrote turn
-      events-put f =
-          let e : fits value_bytes (sofar k).budget ≡ true = rw v.spent at f in
-          ap (λ (s : State Event). s.events) (sym next) ∙ rw (e, v.spent)
+      -- the event that the code's step makes, where it fits
+      abbrev event : Event
+      event = ((turn_of ask) (write_of cycle) budget.seed).0
 
-      events-skip : (step_of cycle ask budget).fits ≡ false → (sofar (k + 1)).events ≡ (sofar k).events
+      events-put : {e : Event} → (step_of cycle ask budget).event ≡ Some e → (sofar (k + 1)).events ≡ (sofar k).events ++ (e ∷ [])
+      unfolding step_of wrote_of wrote turn
+      events-put {e} f =
+          let h = from_some (fits value_bytes budget) event e f in
+          let g : fits value_bytes (sofar k).budget ≡ true = rw v.spent at h.0 in
+          ap (λ (s : State Event). s.events) (sym next) ∙ rw (g, ← v.spent, h.1)
+
+      events-skip : (step_of cycle ask budget).event ≡ None → (sofar (k + 1)).events ≡ (sofar k).events
       unfolding step_of wrote_of wrote turn
       events-skip f =
-          let e : fits value_bytes (sofar k).budget ≡ false = rw v.spent at f in
-          ap (λ (s : State Event). s.events) (sym next) ∙ rw e
+          let n : fits value_bytes budget ≡ false = from-none (fits value_bytes budget) event f in
+          let g : fits value_bytes (sofar k).budget ≡ false = rw v.spent at n in
+          ap (λ (s : State Event). s.events) (sym next) ∙ rw g
 
       module _ (m : is_time ask.until ≡ true) where
         again : (n' : ℕ) (now' : List Event) → n' ≡ length (sofar (k + 1)).events → now' ≡ put_first zero_event count (sofar (k + 1)).events rs
@@ -156,24 +165,24 @@ module _ (ask : Ask) (c : Cycle) (b : Budget) (rs : List Event) (count : ℕ) wh
               rows = r;
             }
 
-        pub skip : (step_of cycle ask budget).fits ≡ false
+        pub skip : (step_of cycle ask budget).event ≡ None
             → Running most (step_of cycle ask budget).cycle (step_of cycle ask budget).budget now n (k + 1)
         skip f =
             let e = events-skip f in
             again n now (rw e v.counted) (rw e v.rows)
 
-        pub put : (step_of cycle ask budget).fits ≡ true → (now' : List Event)
-            → now' ≡ put_first zero_event n (take n now ++ ((step_of cycle ask budget).event ∷ [])) now
+        pub put : {e : Event} → (step_of cycle ask budget).event ≡ Some e → (now' : List Event)
+            → now' ≡ put_first zero_event n (take n now ++ (e ∷ [])) now
             → Running most (step_of cycle ask budget).cycle (step_of cycle ask budget).budget now' (n + 1) (k + 1)
-        put f now' q =
-            let e = events-put f in
-            again (n + 1) now' (rw (e, length-append) (ap (λ (x : ℕ). x + 1) v.counted))
-            (q ∙ rw (v.counted, v.rows, put_one zero_event (step_of cycle ask budget).event count (sofar k).events rs, e))
+        put {e} f now' q =
+            let g = events-put f in
+            again (n + 1) now' (rw (g, length-append) (ap (λ (x : ℕ). x + 1) v.counted))
+            (q ∙ rw (v.counted, v.rows, put_one zero_event e count (sofar k).events rs, g))
 
       -- there is room for an event that fits
-      pub room : (step_of cycle ask budget).fits ≡ true → count ≤ length rs → length (sofar (made ask most c)).events ≤ length rs → n < length now
-      room f h q =
+      pub room : {e : Event} → (step_of cycle ask budget).event ≡ Some e → count ≤ length rs → length (sofar (made ask most c)).events ≤ length rs → n < length now
+      room {e} f h q =
           let g = grows (k + 1) (made ask most c) (omega (arith, some)) in
-          let l : length (sofar (k + 1)).events ≡ length (sofar k).events + 1 = ap length (events-put f) ∙ length-append (sofar k).events ((step_of cycle ask budget).event ∷ []) in
+          let l : length (sofar (k + 1)).events ≡ length (sofar k).events + 1 = ap length (events-put f) ∙ length-append (sofar k).events (e ∷ []) in
           let p : length now ≡ length rs = ap length v.rows ∙ length-put_first zero_event count (sofar k).events rs h (omega arith) in
           omega (arith, v.counted)

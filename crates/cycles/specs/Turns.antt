@@ -1,5 +1,5 @@
 -- 01, "One value": what a due write becomes, and what one record's share of a call leaves.
-use Rattle.std.specs.Prelude.{List, [], ◌++◌, ℕ, min, ℤ, length, get_or, take, drop}
+use Rattle.std.specs.Prelude.{cond, Some, None, List, [], ◌++◌, ℕ, min, ℤ, length, get_or, take, drop}
 use Rattle.budget.specs.declared.Budget.{Budget}
 use Rattle.events.specs.declared.Event.{Event}
 use Rattle.values.specs.declared.WriteOption.{WriteOption}
@@ -40,7 +40,7 @@ turn_of ask = turn (λ (t : ℤ). ask.option) ask.channel
 unfoldable pub step_of : Cycle → Ask → Budget → Stepped
 step_of c ask b =
     let w = wrote_of (asked ask.option ask.channel (write_of c)) b (offered (write_of c)) in
-    record { cycle = advanced c; budget = w.budget; event = w.event; fits = w.fits }
+    record { cycle = advanced c; budget = w.budget; event = cond w.fits (Some w.event) None }
 
 -- how many writes a record makes of at most `most`, and what they leave of a budget and a list
 abbrev pub made : Ask → ℕ → Cycle → ℕ

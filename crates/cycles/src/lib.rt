@@ -42,13 +42,12 @@ impl Cycle {
     pub fn none() -> Cycle
         ensures { result ≡ no_cycle }
     {
-        let values = counted::empty();
         Cycle {
             target: 0,
             length: 0,
             next: 0,
             index: 0,
-            values: values,
+            values: counted::empty(),
         }
     }
 }
@@ -61,13 +60,12 @@ pub struct Ask {
     pub option: WriteOption,
 }
 
-// What one write leaves: the cycle advanced, the event and whether it fits, the budget.
+// What one write leaves: the cycle advanced, the budget, and the event, if it fits.
 #[derive(Clone, Copy)]
 pub struct Stepped {
     pub cycle: Cycle,
     pub budget: Budget,
-    pub event: Event,
-    pub fits: bool,
+    pub event: Option<Event>,
 }
 
 // What a cycle's writes of one call leave, and how many they were, those that did not fit too.
@@ -116,15 +114,12 @@ pub fn key_of(target: i32) -> usize
 pub fn cycle_ok(c: Cycle) -> bool
     ensures { result ≡ ok_cycle c }
 {
-    let values = c.values;
-    let forward = 1 <= c.length;
-    let placed = c.index < c.values.count;
     numbers::is_target(c.target)
-        & forward
+        & (1 <= c.length)
         & numbers::is_length(c.length)
         & numbers::is_stored_time(c.next)
-        & counted::numbers_ok(values)
-        & placed
+        & counted::numbers_ok(c.values)
+        & (c.index < c.values.count)
 }
 
 // The cycle once its next write is taken: one length later, at the value after it.
@@ -132,14 +127,10 @@ pub fn advance(c: Cycle) -> Cycle
     requires { ok_cycle c ≡ true }
     ensures { result ≡ advanced c }
 {
-    let values = c.values;
-    let next = c.next + (c.length as i64);
     Cycle {
-        target: c.target,
-        length: c.length,
-        next: next,
+        next: c.next + i64::from(c.length),
         index: (c.index + 1) % c.values.count,
-        values: values,
+        ..c
     }
 }
 
@@ -149,10 +140,11 @@ pub fn due_count(c: Cycle, until: i64) -> u64
     ensures { result ≡ due_count until c }
 {
     if until < c.next {
-        return 0;
+        0
+    } else {
+        let gap = (until - c.next) as u64;
+        gap / (c.length as u64) + 1
     }
-    let gap = (until - c.next) as u64;
-    gap / (c.length as u64) + 1
 }
 
 // The value that a cycle writes next.
@@ -160,9 +152,7 @@ fn value_of(c: Cycle) -> i32
     requires { ok_cycle c ≡ true }
     ensures { (result ≡ (write_of c).value) × (mag result ≤ 2 ^ 22) }
 {
-    let i = c.index;
-    let values = c.values;
-    values.items[i]
+    c.values.items[c.index]
 }
 
 // One write of a cycle, and the cycle advanced, whether the write fits or not.
@@ -170,36 +160,22 @@ pub fn step(c: Cycle, ask: Ask, b: Budget) -> Stepped
     requires { ok_cycle c ≡ true }
     ensures { result ≡ step_of c ask b }
 {
-    let option = ask.option;
     let w = values::Write {
         target: c.target,
         channel: ask.channel,
         time: c.next,
         freq: 1,
-        option: option,
+        option: ask.option,
     };
-    let value = values::widened(value_of(c));
     let o = values::Offer {
         step: 0,
-        value: value,
+        value: i64::from(value_of(c)),
     };
     let wrote = values::one_value(w, b, o);
-    let next = advance(c);
-    let after = wrote.budget;
-    let event = wrote.event;
-    if wrote.fits {
-        return Stepped {
-            cycle: next,
-            budget: after,
-            event: event,
-            fits: true,
-        };
-    }
     Stepped {
-        cycle: next, // past the write that is lost
-        budget: after,
-        event: event,
-        fits: false,
+        cycle: advance(c), // past a write that is lost, too
+        budget: wrote.budget,
+        event: if wrote.fits { Some(wrote.event) } else { None },
     }
 }
 
@@ -211,31 +187,22 @@ pub fn run_record(c: Cycle, ask: Ask, most: u64, b: Budget, events: &mut [i64], 
     ensures { (result ≡ ran_of ask (made ask most c) c b (events_of events.old count))
         × (rows_of events.new ≡ put_first zero_event count (ran_state ask (made ask most c) c b (events_of events.old count)).events (rows_of events.old)) }
 {
+    let made = most.min(due_count(c, ask.until));
     let mut cycle = c;
     let mut budget = b;
     let mut n = count;
-    let mut k: u64 = 0;
-    while k < most {
-        if ask.until < cycle.next {
-            return Ran {
-                cycle: cycle,
-                made: k,
-                budget: budget,
-                count: n,
-            };
-        }
+    for _ in 0..made {
         let s = step(cycle, ask, budget);
         cycle = s.cycle;
         budget = s.budget;
-        k += 1;
-        if s.fits {
-            n = eventlist::append(events, n, s.event);
+        if let Some(event) = s.event {
+            n = eventlist::append(events, n, event);
         }
     }
     Ran {
-        cycle: cycle,
-        made: k,
-        budget: budget,
+        cycle,
+        made,
+        budget,
         count: n,
     }
 }
@@ -245,8 +212,7 @@ pub fn run_record(c: Cycle, ask: Ask, most: u64, b: Budget, events: &mut [i64], 
 pub fn write_limit(b: Budget) -> u64
     ensures { Unstopped result × (result ≡ limit b) }
 {
-    let most = budget::safe_iteration_limit(b) as u64;
-    lesser(most, CYCLE_WRITES)
+    u64::from(budget::safe_iteration_limit(b)).min(CYCLE_WRITES)
 }
 
 // How many writes the first `used` cycles of a table owe up to `until`.
@@ -255,44 +221,28 @@ pub fn owed_by(table: [Cycle; PLACES], used: usize, until: i64) -> u64
     ensures { result ≡ owed until (take used table) }
 {
     let mut sum: u64 = 0;
-    let mut i: usize = 0;
-    while i < used {
-        let c = table[i];
-        sum = sum + due_count(c, until);
-        i += 1;
+    for i in 0..used {
+        sum += due_count(table[i], until);
     }
     sum
-}
-
-// The lesser of two.
-pub fn lesser(a: u64, b: u64) -> u64
-    ensures { result ≡ min a b }
-{
-    if a < b {
-        return a;
-    }
-    b
 }
 
 // How many events a call adds to the list that owes so many writes.
 pub fn gains(b: Budget, owes: u64) -> u64
     ensures { result ≡ min (room value_bytes b) (min cycle_writes owes) }
 {
-    let most = budget::remaining_event_capacity(b) as u64;
-    let least = lesser(owes, most);
-    lesser(least, CYCLE_WRITES)
+    owes.min(u64::from(b.remaining_event_capacity()))
+        .min(CYCLE_WRITES)
 }
 
 // What the writes of a target are asked with.
 pub fn ask_for(round: Round, target: i32) -> Ask
     ensures { result ≡ ask_for round target }
 {
-    let k = key_of(target);
-    let option = round.options[k];
     Ask {
         until: round.until,
         channel: round.channel,
-        option: option,
+        option: round.options[key_of(target)],
     }
 }
 
@@ -314,21 +264,17 @@ pub fn run_table(
     let mut budget = b;
     let mut n = count;
     let mut left = write_limit(b);
-    let mut i: usize = 0;
-    while i < used {
-        let c = cycles[i];
-        let ask = ask_for(round, c.target);
-        let r = run_record(c, ask, left, budget, events, n);
-        let after = r.cycle;
-        cycles[i] = after;
+    for i in 0..used {
+        let ask = ask_for(round, cycles[i].target);
+        let r = run_record(cycles[i], ask, left, budget, events, n);
+        cycles[i] = r.cycle;
         budget = r.budget;
         n = r.count;
-        left = left - r.made;
-        i += 1;
+        left -= r.made;
     }
     Called {
         table: cycles,
-        budget: budget,
+        budget,
         count: n,
     }
 }

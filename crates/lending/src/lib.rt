@@ -10,7 +10,7 @@ ghost use Rattle.lending.specs.Passing.{ran, placed};
 ghost use Rattle.lending.specs.Moving.{move_of, moved, carried, loading, saving, loaded_of, saved_of};
 ghost use Rattle.lending.specs.Writing.{may_go, went_of, went_list, pass_of, onward, advanced_by, begun_with, answer_of};
 
-use budget::{Budget, remaining_event_capacity};
+use budget::Budget;
 use cycles::{Cycle, PLACES, Round, ask_for, cycle_ok, due_count, lesser, run_record, write_limit};
 use cycling::cycle_refusal;
 use eventlist::WIDTH;
@@ -163,7 +163,7 @@ fn may_go(round: Round, c: Cycle, long: usize, s: Going) -> bool
     }
     let due = due_count(c, round.until);
     let made = lesser(s.left, due);
-    let fitting = remaining_event_capacity(s.budget) as u64;
+    let fitting = u64::from(s.budget.remaining_event_capacity());
     let more = lesser(fitting, made);
     (s.count as u64) + more <= (rows as u64)
 }

@@ -1,9 +1,9 @@
 -- A run over offers, told by what is left: the walk, the count and the records that come of what is left, from here, are those of the
 -- whole, from the beginning. So a step is one clause of a definition, and the end is the empty list.
 use mathlib.Core.Path.{◌≡◌, refl, sym, ap, ap₂, ◌∙◌}
-use mathlib.Core.Bool.{Bool, true, false, cond}
+use Rattle.std.specs.Prelude.{Option, Some, None, option_to_list}
 use mathlib.Core.List.{List, [], ◌∷◌, ◌++◌, append_assoc}
-use Prim.Native.Nat.{ℕ, ◌+◌, ◌-◌, ◌≤◌, ◌<◌}
+use Prim.Native.Nat.{ℕ, ◌+◌, ◌≤◌, ◌<◌}
 use native.Mathlib.Omega.{arith}
 use native.Mathlib.Numerals.{add-one}
 use lib.ListN.{length, take, drop, set, take-append-drop, length-append, length-drop}
@@ -68,66 +68,80 @@ module _ (R : List Event) (n : ℕ) (a : List Event) (h : n ≤ length R) where
 pub append-again : (R : List Event) (n : ℕ) (a b : List Event) → n ≤ length R → append (append R n a) (n + length a) b ≡ append R n (a ++ b)
 append-again R n a b h = rw (long-upto R n a h) at (again R n a h b)
 
--- of a run over `all` that began at (R₀, n₀, k₀), `os` is left and (R, n, k) is reached
+-- of a run over `all` that began at (R₀, n₀, k₀), `os` is left and (R, n, k) is reached; the list is told of where it has room for all
 pub record Adding (w : Rule) (all : List Offer) (R₀ : List Event) (n₀ : ℕ) (k₀ : Walk) (os : List Offer) (R : List Event) (n : ℕ) (k : Walk) : Type 0 where
   pub walks : walked w k os ≡ walked w k₀ all
   pub count : n + length (emitted w k os) ≡ n₀ + length (emitted w k₀ all)
-  pub rows : append R n (emitted w k os) ≡ append R₀ n₀ (emitted w k₀ all)
-  pub long : length R ≡ length R₀
+  pub rows : n₀ + length (emitted w k₀ all) ≤ length R₀ → append R n (emitted w k os) ≡ append R₀ n₀ (emitted w k₀ all)
+  pub long : n₀ + length (emitted w k₀ all) ≤ length R₀ → length R ≡ length R₀
 
 module _ {w : Rule} {all : List Offer} {R₀ : List Event} {n₀ : ℕ} {k₀ : Walk} where
   pub begun : Adding w all R₀ n₀ k₀ all R₀ n₀ k₀
-  begun = record { walks = refl; count = refl; rows = refl; long = refl }
+  begun = record { walks = refl; count = refl; rows = λ h. refl; long = λ h. refl }
 
-  module _ (fit : n₀ + length (emitted w k₀ all) ≤ length R₀) {R : List Event} {n : ℕ} {k : Walk} where
+  module _ {R : List Event} {n : ℕ} {k : Walk} where
     -- some of what is left is done
     pub further : (a b : List Offer) {R' : List Event} {n' : ℕ} {k' : Walk} → Adding w all R₀ n₀ k₀ (a ++ b) R n k
-        → k' ≡ walked w k a → n' ≡ n + length (emitted w k a) → R' ≡ append R n (emitted w k a) → Adding w all R₀ n₀ k₀ b R' n' k'
-    further a b v p q r =
-        let now = emitted w k a in
-        let then = emitted w (walked w k a) b in
-        let parts = emitted-append w k a b in
-        let sum = length-append now then in
-        let count : n + length (now ++ then) ≡ n₀ + length (emitted w k₀ all) = rw parts at v.count in
-        let same = v.long in
-        rw (p, q, r)
-        (record {
-          walks = sym (walked-append w k a b) ∙ v.walks;
-          count = omega arith;
-          rows = append-again R n now then (omega arith) ∙ (rw parts at v.rows);
-          long = length-appended R n now (omega arith) ∙ same;
-        })
+        → k' ≡ walked w k a → n' ≡ n + length (emitted w k a) → (n + length (emitted w k a) ≤ length R → R' ≡ append R n (emitted w k a))
+        → Adding w all R₀ n₀ k₀ b R' n' k'
+    further a b {R'} v p q r = rw (p, q) made
+      where
+        now : List Event
+        now = emitted w k a
 
-    -- there is room for some of what is left
-    pub room_for : (a b : List Offer) → Adding w all R₀ n₀ k₀ (a ++ b) R n k → n + length (emitted w k a) ≤ length R
-    room_for a b v =
-        omega (arith, rw (emitted-append w k a b) at v.count, length-append (emitted w k a) (emitted w (walked w k a) b), v.long, fit)
+        then : List Event
+        then = emitted w (walked w k a) b
 
-  pub ended : {R : List Event} {n : ℕ} {k : Walk} → Adding w all R₀ n₀ k₀ [] R n k → (k ≡ walked w k₀ all) × (n ≡ n₀ + length (emitted w k₀ all)) × (R ≡ append R₀ n₀ (emitted w k₀ all))
+        count : n + length (now ++ then) ≡ n₀ + length (emitted w k₀ all)
+        count = rw (emitted-append w k a b) at v.count
+
+        room : n₀ + length (emitted w k₀ all) ≤ length R₀ → n + length now ≤ length R
+        room fit = let same = v.long fit in omega (arith, count, length-append now then)
+
+        made : Adding w all R₀ n₀ k₀ b R' (n + length now) (walked w k a)
+        made =
+            record {
+              walks = sym (walked-append w k a b) ∙ v.walks;
+              count = omega (arith, count, length-append now then);
+              rows =
+                  λ fit.
+                  let rows : append R n (now ++ then) ≡ append R₀ n₀ (emitted w k₀ all) = rw (emitted-append w k a b) at v.rows fit in
+                  rw (r (room fit)) (append-again R n now then (let h = room fit in omega arith) ∙ rows);
+              long = λ fit. rw (r (room fit)) (length-appended R n now (room fit) ∙ v.long fit);
+            }
+
+    -- some of what is left is no more than all
+    pub counts_for : (a b : List Offer) → Adding w all R₀ n₀ k₀ (a ++ b) R n k → n + length (emitted w k a) ≤ n₀ + length (emitted w k₀ all)
+    counts_for a b v = omega (arith, rw (emitted-append w k a b) at v.count, length-append (emitted w k a) (emitted w (walked w k a) b))
+
+  pub ended : {R : List Event} {n : ℕ} {k : Walk} → Adding w all R₀ n₀ k₀ [] R n k
+      → (k ≡ walked w k₀ all) × (n ≡ n₀ + length (emitted w k₀ all)) × (n₀ + length (emitted w k₀ all) ≤ length R₀ → R ≡ append R₀ n₀ (emitted w k₀ all))
   unfolding walked emitted
-  ended {R} {n} {k} v = (v.walks, (let c = v.count in omega arith), sym (append-none R n) ∙ v.rows)
+  ended {R} {n} {k} v = (v.walks, (let c = v.count in omega arith), λ fit. sym (append-none R n) ∙ v.rows fit)
 
   -- one offer: nothing is written, or one event at place n
-  module _ (fit : n₀ + length (emitted w k₀ all) ≤ length R₀) {R : List Event} {n : ℕ} {k : Walk} (o : Offer) (os : List Offer) (v : Adding w all R₀ n₀ k₀ (o ∷ os) R n k) where
+  module _ {R : List Event} {n : ℕ} {k : Walk} (o : Offer) (os : List Offer) (v : Adding w all R₀ n₀ k₀ (o ∷ os) R n k) where
     pub skip : {k' : Walk} → k' ≡ advance w k o → [] ≡ emit w k o → Adding w all R₀ n₀ k₀ os R n k'
     unfolding walked emitted
     skip p e =
         let none : emit w k o ++ [] ≡ [] = rw (← e) refl in
-        further fit (o ∷ []) os v p (rw none (omega arith)) (rw none (sym (append-none R n)))
+        further (o ∷ []) os v p (rw none (omega arith)) (λ h. rw none (sym (append-none R n)))
 
-    pub room-left : {e : Event} → e ∷ [] ≡ emit w k o → n < length R
+    -- one more is counted
+    pub counts-one : {e : Event} → e ∷ [] ≡ emit w k o → n < n₀ + length (emitted w k₀ all)
     unfolding emitted
-    room-left {e} q =
-        omega (arith, rw (← q) at v.count, v.long, fit)
+    counts-one {e} q = omega (arith, rw (← q) at v.count)
 
-    pub put : {e : Event} {R' : List Event} {k' : Walk} → k' ≡ advance w k o → e ∷ [] ≡ emit w k o → R' ≡ set R n e → Adding w all R₀ n₀ k₀ os R' (n + 1) k'
+    pub put : {e : Event} {R' : List Event} {k' : Walk} → k' ≡ advance w k o → e ∷ [] ≡ emit w k o → (n < length R → R' ≡ set R n e) → Adding w all R₀ n₀ k₀ os R' (n + 1) k'
     unfolding walked emitted
     put {e} p q r =
         let one : emit w k o ++ [] ≡ e ∷ [] = rw (← q) refl in
-        further fit (o ∷ []) os v p (rw one (omega arith)) (rw one (r ∙ append-one R n e (room-left q)))
+        further (o ∷ []) os v p (rw one (omega arith))
+        (rw one (λ h. let room : n < length R = omega arith in r room ∙ append-one R n e room))
 
-pub one_of : (t : Bool) (e : Event) (l : List Event) → t ≡ true → cond t (e ∷ []) [] ≡ l → e ∷ [] ≡ l
-one_of t e l q h = rw q at h
+-- the event that an offer becomes, as the list of what is emitted
+pub one_of : {o : Option Event} {e : Event} {l : List Event} → o ≡ Some e → option_to_list o ≡ l → e ∷ [] ≡ l
+one_of q h = rw q at h
 
-pub none_of : (t : Bool) (e : Event) (l : List Event) → t ≡ false → cond t (e ∷ []) [] ≡ l → [] ≡ l
-none_of t e l q h = rw q at h
+pub none_of : {o : Option Event} {l : List Event} → o ≡ None → option_to_list o ≡ l → [] ≡ l
+none_of q h = rw q at h

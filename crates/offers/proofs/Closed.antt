@@ -12,6 +12,8 @@ use native.Mathlib.Omega.{arith}
 use borrow.Author.Tests.{leb-true, leb-false, lt-ltb, le-ltb, ltb-true, ltb-false}
 use lib.Dec.{ltb, leb}
 use lib.ListN.{length, take}
+use lib.IntN.{pos}
+use Rattle.std.specs.Prelude.{is_some, unwrap_or, Some}
 use Rattle.budget.specs.declared.Budget.{Budget}
 use Rattle.budget.specs.Budgets.{room, fits}
 use Rattle.events.specs.declared.Event.{Event}
@@ -89,7 +91,7 @@ module _ (r : Rule) (some : 0 < r.size) where
       go false e = let f = fits-none size b.maximum b.used e in rw f
 
   abbrev fresh_of : Walk → List Offer → List Offer
-  fresh_of k os = fresh r.all k.any k.last os
+  fresh_of k os = fresh r.all (is_some k.last) (unwrap_or k.last (pos 0)) os
 
   pub record Closed (k : Walk) (os : List Offer) : Type 0 where
     pub events : emitted r k os ≡ written r (room size k.budget) (fresh_of k os) k.budget.seed
@@ -104,7 +106,7 @@ module _ (r : Rule) (some : 0 < r.size) where
   one k o os v = go (dropped r k o) refl v
     where
       next : Walk
-      next = record { any = true; last = o.value; budget = paid r.size r.next k.budget }
+      next = record { last = Some o.value; budget = paid r.size r.next k.budget }
 
       go : (t : Bool) → dropped r k o ≡ t → Closed (cond t k next) os → Closed k (o ∷ os)
       go true e v =
@@ -112,14 +114,14 @@ module _ (r : Rule) (some : 0 < r.size) where
             events = rw e v.events;
             budget =
                 ap (λ (t : Bool). (walked r (cond t k next) os).budget) e ∙ v.budget
-                ∙ sym (ap (λ (t : Bool). spent r k.budget (cond t (fresh r.all k.any k.last os) (o ∷ fresh r.all true o.value os))) e);
+                ∙ sym (ap (λ (t : Bool). spent r k.budget (cond t (fresh r.all (is_some k.last) (unwrap_or k.last (pos 0)) os) (o ∷ fresh r.all true o.value os))) e);
           }
       go false e v =
           record {
             events = rw e (ap (λ (x : List Event). cond (fits size k.budget) (r.events o (r.next k.budget.seed)) [] ++ x) v.events ∙ gives k.budget (r.events o (r.next k.budget.seed)) _);
             budget =
                 ap (λ (t : Bool). (walked r (cond t k next) os).budget) e ∙ v.budget ∙ pay k.budget o (fresh r.all true o.value os)
-                ∙ sym (ap (λ (t : Bool). spent r k.budget (cond t (fresh r.all k.any k.last os) (o ∷ fresh r.all true o.value os))) e);
+                ∙ sym (ap (λ (t : Bool). spent r k.budget (cond t (fresh r.all (is_some k.last) (unwrap_or k.last (pos 0)) os) (o ∷ fresh r.all true o.value os))) e);
           }
 
   pub closed : (k : Walk) (os : List Offer) → Closed k os

@@ -1,13 +1,12 @@
 -- 01, "Waves", as the code goes: a source stands at a place of the triples, and what it has still to give is, by mode,
 -- what `triples_of` builds as a list.
-use Rattle.std.specs.Prelude.{◌≡◌, Bool, true, false, cond, List, [], ◌∷◌, ◌++◌, ℕ, ◌+◌, ◌-◌, ◌*◌, ◌/◌, min, ◌≤◌, ◌<◌, ◌^◌, eqb, ltb, ℤ, length, get_or, drop}
+use Rattle.std.specs.Prelude.{◌≡◌, Bool, cond, Option, Some, None, List, [], ◌∷◌, ◌++◌, ℕ, ◌+◌, ◌-◌, ◌*◌, ◌/◌, min, ◌≤◌, ◌<◌, ◌^◌, eqb, ltb, ℤ, length, get_or, drop}
 use Rattle.std.specs.Int.Signed.{mag}
 use Rattle.offers.specs.declared.Piece.{Piece}
 use Rattle.offers.specs.declared.Shape.TheVariants.{Glide}
 use Rattle.offers.specs.declared.Mode.{Mode}
 use Rattle.offers.specs.declared.Mode.TheVariants.{Normal, Expand, Repeat}
 use Rattle.offers.specs.declared.Source.{Source}
-use Rattle.offers.specs.declared.Next.{Next}
 use Rattle.offers.specs.Pieces.{total}
 use Rattle.offers.specs.Waves.{no_piece, with_len, expand, fill, around, unchanged, triples}
 
@@ -47,11 +46,11 @@ abbrev pub source_after : ℕ → Source → ℕ → Source
 source_after n s len =
     record { mode = s.mode; at = after_by s.mode (is_last n s) (s.at + 1); rest = s.rest - len; whole = s.whole; total = s.total }
 
-unfoldable pub next_of : List Piece → Source → Next
+unfoldable pub next_of : List Piece → Source → Option (Piece × Source)
 next_of ts s =
     cond (more_by s.mode (length ts) s)
-    (record { piece = with_len (get_or ts s.at no_piece) (next_length ts s); source = source_after (length ts) s (next_length ts s); more = true })
-    (record { piece = no_piece; source = s; more = false })
+    (Some (with_len (get_or ts s.at no_piece) (next_length ts s), source_after (length ts) s (next_length ts s)))
+    None
 
 -- a wave's source before its first triple
 unfoldable pub starting_at : Mode → List Piece → ℕ → Source

@@ -4,7 +4,7 @@
 // the next one is held against. Nothing here meets the event list.
 #![tactic(auto)]
 
-ghost use Rattle.std.specs.Prelude.{◌≡◌, cond, [], ◌∷◌, ◌+◌, ◌*◌, ◌-◌, ◌<◌, ◌^◌, pos, length, get_or};
+ghost use Rattle.std.specs.Prelude.{◌≡◌, ◌<◌, ◌^◌, length, get_or, option_to_list};
 ghost use Rattle.values.specs.Value.{Ready, Near};
 ghost use Rattle.offers.specs.Rules.{rule_of};
 ghost use Rattle.laws.specs.Integers.{cut};
@@ -38,8 +38,7 @@ pub struct Piece {
 // The last value offered, if there is one, and the budget.
 #[derive(Clone, Copy)]
 pub struct Walk {
-    pub any: bool,
-    pub last: i64,
+    pub last: Option<i64>,
     pub budget: Budget,
 }
 
@@ -47,8 +46,7 @@ pub struct Walk {
 #[derive(Clone, Copy)]
 pub struct Taken {
     pub walk: Walk,
-    pub event: Event,
-    pub fits: bool,
+    pub event: Option<Event>,
 }
 
 #[derive(Clone, Copy)]
@@ -68,51 +66,33 @@ pub struct Source {
     pub total: u64,
 }
 
-// The next piece, if there is one, and the source after it.
-#[derive(Clone, Copy)]
-pub struct Next {
-    pub piece: Piece,
-    pub source: Source,
-    pub more: bool,
-}
-
 // Whether an offer is dropped: random is off and its value is the last one's.
+#[tactic(auto, unfolding(crate::specs::Rules::rule_of))]
 fn is_dropped(w: Write, k: Walk, o: Offer) -> bool
     ensures { result ≡ dropped (rule_of w) k o }
 {
-    let option = w.option;
-    if option.random <= 0 {
-        if k.any {
-            return k.last == o.value;
-        }
-    }
-    false
+    w.option.random <= 0 && k.last == Some(o.value)
 }
 
 // Takes an offer: it is dropped, or it becomes an event that is to be written, or one whose bytes do not fit.
 pub fn take_offer(w: Write, k: Walk, o: Offer) -> Taken
     requires { Ready w × Near o }
-    ensures { (result.walk ≡ advance (rule_of w) k o) × (cond result.fits (result.event ∷ []) [] ≡ emit (rule_of w) k o) }
+    ensures { (result.walk ≡ advance (rule_of w) k o) × (option_to_list result.event ≡ emit (rule_of w) k o) }
 {
     if is_dropped(w, k, o) {
-        return Taken {
+        Taken {
             walk: k,
-            event: events::zero_event(),
-            fits: false,
-        };
-    }
-    let b = k.budget;
-    let r = values::one_value(w, b, o);
-    let rest = r.budget;
-    let e = r.event;
-    Taken {
-        walk: Walk {
-            any: true,
-            last: o.value,
-            budget: rest,
-        },
-        event: e,
-        fits: r.fits,
+            event: None,
+        }
+    } else {
+        let r = values::one_value(w, k.budget, o);
+        Taken {
+            walk: Walk {
+                last: Some(o.value),
+                budget: r.budget,
+            },
+            event: if r.fits { Some(r.event) } else { None },
+        }
     }
 }
 
@@ -121,22 +101,19 @@ pub fn point(t: Piece, at: u64, j: u64, quarter: &[u32; 1025]) -> Offer
     requires { Mild t at × (j < t.len) × (quarter.now ≡ quarter_table) }
     ensures { (result ≡ point_at at t j) × Near result }
 {
-    let shape = t.shape;
-    match shape {
-        Shape::Glide => {
-            let v = shapes::curve_value(t.low, t.high, j, t.len);
-            Offer {
-                step: at + j,
-                value: v,
-            }
-        }
-        Shape::Turn(stype, turn) => {
-            let v = sines::sine_value(quarter, stype, t.low, t.high, j % turn, turn);
-            Offer {
-                step: at + j,
-                value: v,
-            }
-        }
+    Offer {
+        step: at + j,
+        value: match t.shape {
+            Shape::Glide => shapes::curve_value(t.low, t.high, j, t.len),
+            Shape::Turn(stype, turn) => sines::sine_value(
+                quarter,
+                stype,
+                t.low,
+                t.high,
+                j % turn,
+                turn,
+            ),
+        },
     }
 }
 
@@ -144,10 +121,8 @@ pub fn point(t: Piece, at: u64, j: u64, quarter: &[u32; 1025]) -> Offer
 fn has_more(s: Source, count: usize) -> bool
     ensures { result ≡ more_by s.mode count s }
 {
-    let mode = s.mode;
-    match mode {
-        Mode::Normal => s.at < count,
-        Mode::Expand => s.at < count,
+    match s.mode {
+        Mode::Normal | Mode::Expand => s.at < count,
         Mode::Repeat => 0 < s.rest,
     }
 }
@@ -157,15 +132,14 @@ fn next_length(s: Source, len: u64, last: bool) -> u64
     requires { (0 < s.total) × (s.whole < 2 ^ 32) × (len < 2 ^ 32) }
     ensures { result ≡ length_by s.mode s len last }
 {
-    let mode = s.mode;
-    match mode {
+    match s.mode {
         Mode::Normal => len,
         Mode::Expand => if last {
             s.rest
         } else {
             len * s.whole / s.total
         },
-        Mode::Repeat => if len < s.rest { len } else { s.rest },
+        Mode::Repeat => len.min(s.rest),
     }
 }
 
@@ -174,8 +148,7 @@ fn place_after(mode: Mode, last: bool, next: usize) -> usize
     ensures { result ≡ after_by mode last next }
 {
     match mode {
-        Mode::Normal => next,
-        Mode::Expand => next,
+        Mode::Normal | Mode::Expand => next,
         Mode::Repeat => if last { 0 } else { next },
     }
 }
@@ -184,17 +157,7 @@ fn place_after(mode: Mode, last: bool, next: usize) -> usize
 pub fn length_of(z: i64) -> u64
     ensures { result ≡ cut z }
 {
-    if z < 0 {
-        return 0;
-    }
-    z as u64
-}
-
-fn number_at(numbers: &[i32], i: usize) -> i64
-    requires { i < length numbers.now }
-    ensures { result ≡ get_or numbers.now i (pos 0) }
-{
-    values::widened(numbers[i])
+    u64::try_from(z).unwrap_or(0)
 }
 
 // The triple at place `i` of a list of numbers.
@@ -204,9 +167,9 @@ fn triple_at(numbers: &[i32], i: usize) -> Piece
 {
     let first = i * 3;
     Piece {
-        low: number_at(numbers, first),
-        high: number_at(numbers, first + 1),
-        len: length_of(number_at(numbers, first + 2)),
+        low: i64::from(numbers[first]),
+        high: i64::from(numbers[first + 1]),
+        len: length_of(i64::from(numbers[first + 2])),
         shape: Shape::Glide,
     }
 }
@@ -216,51 +179,26 @@ fn source_after(s: Source, count: usize, len: u64) -> Source
     requires { s.at < count }
     ensures { result ≡ source_after count s len }
 {
-    let mode = s.mode;
     let next = s.at + 1;
-    let at = place_after(mode, next == count, next);
-    let rest = if len < s.rest { s.rest - len } else { 0 };
     Source {
-        mode: mode,
-        at: at,
-        rest: rest,
-        whole: s.whole,
-        total: s.total,
+        at: place_after(s.mode, next == count, next),
+        rest: s.rest.saturating_sub(len),
+        ..s
     }
 }
 
-// The next triple, if there is one, and the source after it.
-pub fn next_triple(s: Source, numbers: &[i32]) -> Next
+// The next triple and the source after it, if there is one.
+pub fn next_triple(s: Source, numbers: &[i32]) -> Option<(Piece, Source)>
     requires { Sound (triples numbers.now) s × Short (triples numbers.now) }
     ensures { result ≡ next_of (triples numbers.now) s }
 {
     let count = numbers.len() / 3;
     if has_more(s, count) {
-        let at = s.at;
-        let t = triple_at(numbers, at);
-        let len = next_length(s, t.len, at + 1 == count);
-        let after = source_after(s, count, len);
-        let shape = t.shape;
-        return Next {
-            piece: Piece {
-                low: t.low,
-                high: t.high,
-                len: len,
-                shape: shape,
-            },
-            source: after,
-            more: true,
-        };
-    }
-    Next {
-        piece: Piece {
-            low: 0,
-            high: 0,
-            len: 0,
-            shape: Shape::Glide,
-        },
-        source: s,
-        more: false,
+        let t = triple_at(numbers, s.at);
+        let len = next_length(s, t.len, s.at + 1 == count);
+        Some((Piece { len, ..t }, source_after(s, count, len)))
+    } else {
+        None
     }
 }
 
@@ -269,13 +207,9 @@ pub fn total_of(numbers: &[i32]) -> u64
     requires { Fine numbers.now }
     ensures { result ≡ total (triples numbers.now) }
 {
-    let count = numbers.len() / 3;
-    let mut i: usize = 0;
     let mut sum: u64 = 0;
-    while i < count {
-        let t = triple_at(numbers, i);
-        sum += t.len;
-        i += 1;
+    for i in 0..numbers.len() / 3 {
+        sum += triple_at(numbers, i).len;
     }
     sum
 }
@@ -286,22 +220,21 @@ pub fn start_source(mode: Mode, numbers: &[i32], n: u64) -> Source
     ensures { result ≡ starting_at mode (triples numbers.now) n }
 {
     let total = total_of(numbers);
-    if 0 < n {
-        if 0 < total {
-            return Source {
-                mode: mode,
-                at: 0,
-                rest: n,
-                whole: n,
-                total: total,
-            };
+    if n == 0 || total == 0 {
+        Source {
+            mode: Mode::Normal,
+            at: 0,
+            rest: 0,
+            whole: 0,
+            total: 1,
         }
-    }
-    Source {
-        mode: Mode::Normal,
-        at: 0,
-        rest: 0,
-        whole: 0,
-        total: 1,
+    } else {
+        Source {
+            mode,
+            at: 0,
+            rest: n,
+            whole: n,
+            total,
+        }
     }
 }

@@ -1,11 +1,9 @@
 -- 01, "Numbers a caller may hand in": a target's option, its ranges, and what it does to a value.
-use Rattle.std.specs.Prelude.{Bool, cond, ◌&&◌, ℕ, eqb, leb, ℤ, pos}
+use Rattle.std.specs.Prelude.{Bool, cond, ◌&&◌, ℕ, eqb, leb, ℤ, pos, Option, Some, None}
 use Rattle.laws.specs.Integers.{range_of}
 use Rattle.numbers.specs.Ranges.{is_length, is_random, is_number, absent_or}
 use Rattle.numbers.specs.Random.{spread}
 use Rattle.values.specs.declared.WriteOption.{WriteOption}
-use Rattle.values.specs.declared.Range.{Range}
-use Rattle.values.specs.declared.Range.TheVariants.{Open, Limits}
 
 abbrev pub new_option : WriteOption
 new_option = record { delay = pos 0; random = pos 0; ranged = 0; low = pos 0; high = pos 0; repeat = 0 }
@@ -17,12 +15,12 @@ ok_option o =
     && is_length o.delay && is_random o.random
 
 -- the range that an option has, if it has one
-unfoldable pub range_in : WriteOption → Range
-range_in o = cond (eqb o.ranged 0) Open (Limits o.low o.high)
+unfoldable pub range_in : WriteOption → Option (ℤ × ℤ)
+range_in o = cond (eqb o.ranged 0) None (Some (o.low, o.high))
 
-abbrev pub limited : Range → ℤ → ℤ
-limited Open v = v
-limited (Limits low high) v = range_of low v high
+abbrev pub limited : Option (ℤ × ℤ) → ℤ → ℤ
+limited None v = v
+limited (Some (low, high)) v = range_of low v high
 
 -- "random, then the option's range", y being the seed, already stepped
 unfoldable pub moved : WriteOption → ℤ → ℕ → ℤ

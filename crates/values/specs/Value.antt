@@ -8,6 +8,7 @@ use Rattle.budget.specs.declared.Budget.{Budget}
 use Rattle.budget.specs.Budgets.{fits, reserved}
 use Rattle.events.specs.declared.Event.{Event}
 use Rattle.events.specs.Kinds.{control_change, pitch_bend}
+use Rattle.events.specs.Events.{cc_event, pitch_bend_event}
 use Rattle.values.specs.declared.Write.{Write}
 use Rattle.values.specs.declared.Offer.{Offer}
 use Rattle.values.specs.declared.Wrote.{Wrote}
@@ -19,12 +20,10 @@ unfoldable pub kind_of : ℤ → ℤ
 kind_of target = cond (is_controller target) control_change pitch_bend
 
 abbrev pub controller_event : ℤ → ℤ → ℤ → ℤ → Event
-controller_event time channel number v =
-    record { kind = control_change; time = time; channel = channel; v1 = number; v2 = v; v3 = pos 0; offset = pos 0; len = pos 0 }
+controller_event time channel number v = cc_event time channel number v
 
 abbrev pub bend_event : ℤ → ℤ → ℤ → Event
-bend_event time channel v =
-    record { kind = pitch_bend; time = time; channel = channel; v1 = v; v2 = pos 0; v3 = pos 0; offset = pos 0; len = pos 0 }
+bend_event time channel v = pitch_bend_event time channel v
 
 unfoldable pub event_for : ℤ → ℤ → ℤ → ℤ → Event
 event_for target time channel v = cond (is_controller target) (controller_event time channel target v) (bend_event time channel v)

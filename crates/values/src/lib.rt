@@ -3,13 +3,13 @@
 // none of them knows more of an option than this room. The list itself is not met here.
 #![tactic(auto)]
 
-ghost use Rattle.std.specs.Prelude.{◌≡◌, ◌<◌, ◌^◌, pos, ◌+ℤ◌, ◌*ℤ◌};
+ghost use Rattle.std.specs.Prelude.{◌≡◌, ◌<◌, ◌^◌};
 ghost use Rattle.std.specs.Int.Signed.{mag};
 ghost use Rattle.values.specs.Options.{ok_option, new_option, range_in, limited};
 ghost use Rattle.values.specs.Clamp.{clamped};
 ghost use Rattle.values.specs.Value.{start_of, time_of, kind_of, event_for, wrote_of, Ready, Near};
 
-use budget::Budget;
+use budget::{Budget, VALUE_BYTES};
 use events::Event;
 
 // What is set for a target and outlasts a write. `ranged` and `repeat` are 0 or 1.
@@ -50,13 +50,6 @@ pub struct Wrote {
     pub fits: bool,
 }
 
-// An option's range, taken apart.
-#[derive(Clone, Copy)]
-pub enum Range {
-    Open,
-    Limits(i32, i32),
-}
-
 impl WriteOption {
     // No delay, no random, no range, no repeat.
     pub fn new() -> WriteOption
@@ -74,6 +67,7 @@ impl WriteOption {
 }
 
 // Whether an option's numbers are in their ranges.
+#[tactic(auto, unfolding(crate::specs::Options::ok_option))]
 pub fn option_ok(option: WriteOption) -> bool
     ensures { result ≡ ok_option option }
 {
@@ -87,27 +81,15 @@ pub fn option_ok(option: WriteOption) -> bool
 }
 
 // The range that an option has, if it has one.
-pub fn range_of(option: WriteOption) -> Range
+#[tactic(auto, unfolding(crate::specs::Options::range_in))]
+pub fn range_of(option: WriteOption) -> Option<(i32, i32)>
     ensures { result ≡ range_in option }
 {
     if option.ranged == 0 {
-        return Range::Open;
+        None
+    } else {
+        Some((option.low, option.high))
     }
-    Range::Limits(option.low, option.high)
-}
-
-fn scaled(v: i64) -> i64
-    requires { mag v < 2 ^ 40 }
-    ensures { result ≡ v *ℤ pos 128 }
-{
-    v * 128
-}
-
-fn raised(v: i64) -> i64
-    requires { mag v < 2 ^ 40 }
-    ensures { result ≡ v +ℤ pos 8192 }
-{
-    v + 8192
 }
 
 // The value that a target's event gets; a code that is no target's gets 0.
@@ -117,8 +99,8 @@ fn clamp(target: i32, v: i64) -> i64
 {
     match target {
         0..=127 => numbers::value_range(0, v, 127),
-        128 => numbers::value_range(0, scaled(v), 32639),
-        129 => numbers::value_range(0, raised(v), 32639),
+        128 => numbers::value_range(0, v * 128, 32639),
+        129 => numbers::value_range(0, v + 8192, 32639),
         _ => 0,
     }
 }
@@ -127,7 +109,7 @@ fn clamp(target: i32, v: i64) -> i64
 pub fn widened(x: i32) -> i64
     ensures { (result ≡ x) × (mag result < 2 ^ 31) }
 {
-    x as i64
+    i64::from(x)
 }
 
 // A value within an option's range.
@@ -135,71 +117,52 @@ fn limit(option: WriteOption, v: i64) -> i64
     requires { mag v < 2 ^ 38 }
     ensures { (result ≡ limited (range_in option) v) × (mag result < 2 ^ 40) }
 {
-    let range = range_of(option);
-    match range {
-        Range::Open => v,
-        Range::Limits(low, high) => {
-            let least = widened(low);
-            let most = widened(high);
-            numbers::value_range(least, v, most)
-        }
+    match range_of(option) {
+        None => v,
+        Some((low, high)) => numbers::value_range(i64::from(low), v, i64::from(high)),
     }
 }
 
 // The kind of a target's events.
+#[tactic(auto, unfolding(crate::specs::Value::kind_of))]
 pub fn kind_of(target: i32) -> i64
     ensures { result ≡ kind_of target }
 {
-    match target {
-        0..=127 => 2,
-        _ => 3,
+    if numbers::is_controller(i64::from(target)) {
+        events::CONTROL_CHANGE
+    } else {
+        events::PITCH_BEND
     }
 }
 
 // When a write starts: its time and its option's delay.
+#[tactic(auto, unfolding(crate::specs::Value::start_of))]
 pub fn start_of(w: Write) -> i64
     requires { Ready w }
     ensures { (result ≡ start_of w) × (mag result < 2 ^ 43) }
 {
-    let option = w.option;
-    w.time + widened(option.delay)
+    w.time + i64::from(w.option.delay)
 }
 
 // When an offer's event stands.
+#[tactic(auto, unfolding(crate::specs::Value::time_of))]
 fn time_of(w: Write, step: u64) -> i64
     requires { Ready w × (step < 2 ^ 43) }
     ensures { result ≡ time_of w step }
 {
-    start_of(w) + (step as i64)
+    start_of(w) + step as i64
 }
 
 // The event of a target: a controller's has its number and the value, a bend's the value alone.
+#[tactic(auto, unfolding(crate::specs::Value::event_for))]
 fn make_event(target: i32, time: i64, channel: i32, v: i64) -> Event
     ensures { result ≡ event_for target time channel v }
 {
-    let on = widened(channel);
-    let number = widened(target);
-    match target {
-        0..=127 => Event {
-            kind: 2,
-            time: time,
-            channel: on,
-            v1: number,
-            v2: v,
-            v3: 0,
-            offset: 0,
-            len: 0,
-        },
-        _ => Event {
-            kind: 3,
-            time: time,
-            channel: on,
-            v1: v,
-            v2: 0,
-            v3: 0,
-            offset: 0,
-            len: 0,
-        },
+    let number = i64::from(target);
+    if numbers::is_controller(number) {
+        events::cc_event(time, i64::from(channel), number, v)
+    } else {
+        events::pitch_bend_event(time, i64::from(channel), v)
     }
 }
 
@@ -209,15 +172,12 @@ pub fn one_value(w: Write, b: Budget, o: Offer) -> Wrote
     requires { Ready w × Near o }
     ensures { result ≡ wrote_of w b o }
 {
-    let option = w.option;
-    let moved = budget::calc_rand_value(b, o.value, widened(option.random));
-    let v = clamp(w.target, limit(option, moved.value));
-    let event = make_event(w.target, time_of(w, o.step), w.channel, v);
-    let asked = budget::reserve_event(moved.budget, 8);
-    let after = asked.budget;
+    let moved = budget::calc_rand_value(b, o.value, i64::from(w.option.random));
+    let v = clamp(w.target, limit(w.option, moved.value));
+    let asked = budget::reserve_event(moved.budget, VALUE_BYTES);
     Wrote {
-        budget: after,
-        event: event,
+        budget: asked.budget,
+        event: make_event(w.target, time_of(w, o.step), w.channel, v),
         fits: asked.fits,
     }
 }

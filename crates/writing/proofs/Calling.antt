@@ -13,6 +13,7 @@ use native.Mathlib.Omega.{arith}
 use borrow.Author.Tests.{lt-ltb, le-ltb, ltb-true, ltb-false}
 use lib.Dec.{ltb}
 use lib.IntN.{ℤ, pos}
+use Rattle.std.specs.Prelude.{None}
 use lib.ListN.{length, take, drop, replicate, length-append}
 use lib.Seq.{length-take-le, take-append_seam}
 use Rattle.laws.specs.Lists.{without, put_first}
@@ -76,7 +77,7 @@ module _ (w : Write) (long : ℕ) (l : List ℤ) (count : ℕ) where
 
 module _ (w : Write) (b : Budget) (os : List Offer) where
   abbrev pub from : Walk
-  from = record { any = false; last = pos 0; budget = b }
+  from = record { last = None; budget = b }
 
   some : 0 < (rule_of w).size
   unfolding rule_of
@@ -126,6 +127,13 @@ unfolding offered
 few-new w b ts =
     let os = offers w.freq ts (step_budget b) 0 in
     omega (arith, length-new w b os, fresh-le (rule_of w).all false (pos 0) os, few w.freq ts (step_budget b) 0, few-long w.freq ts (step_budget b) 0)
+
+-- what a run over the steps of the budget appends
+pub appends : (w : Write) (b : Budget) (ts : List Piece) (n : ℕ) → n ≡ step_budget b
+    → emitted (rule_of w) (from w b (offers w.freq ts (step_budget b) 0)) (offers w.freq ts n 0) ≡ new_events_for w b ts
+appends w b ts n e =
+    let all = offers w.freq ts (step_budget b) 0 in
+    ap (λ (m : ℕ). emitted (rule_of w) (from w b all) (offers w.freq ts m 0)) e ∙ new_is w b all
 
 -- taken out, then appended
 pub rows_end : {x l es : List Event} {n : ℕ} (z : Event) (count : ℕ) (keeps news R : List Event) → x ≡ append l n es → n ≡ length keeps → l ≡ put_first z count keeps R → es ≡ news → x ≡ put_first z count (keeps ++ news) R

@@ -1,18 +1,12 @@
 -- A run by the case of its origin: the pieces, their offers and their length.
 use mathlib.Core.Path.{◌≡◌, ap, ◌∙◌, subst}
 use mathlib.Core.List.{List, append-nil}
-use Prim.Native.Nat.{ℕ, ◌+◌, ◌≤◌, ◌^◌, min}
+use Prim.Native.Nat.{ℕ, ◌≤◌, ◌^◌, min}
 use native.Mathlib.Omega.{arith}
-use Rattle.values.specs.declared.Offer.{Offer}
 use Rattle.offers.specs.declared.Piece.{Piece}
 use Rattle.offers.specs.declared.Source.{Source}
 use Rattle.offers.specs.Pieces.{points_of, offers, total, Mild}
 use Rattle.offers.specs.Sources.{rest_of, Runs}
-use lib.ListN.{length}
-use Rattle.events.specs.declared.Event.{Event}
-use Rattle.offers.specs.declared.Walk.{Walk}
-use Rattle.offers.specs.Rules.{Rule}
-use Rattle.offers.specs.Walks.{walked, emitted, append}
 use Rattle.writing.specs.declared.Origin.{Origin}
 use Rattle.writing.specs.declared.Origin.TheVariants.{Wave, Sine}
 use Rattle.writing.specs.Origins.{pieces_of, Asked}
@@ -41,7 +35,3 @@ pub far : (ts : List Piece) (origin : Origin) → Asked ts origin → total (pie
 unfolding pieces_of total
 far ts (Wave s) h = let f = h.far in omega arith
 far ts (Sine t) h = let f = h.ends in omega arith
-
--- what a writing run leaves, of the offers that it is over
-abbrev pub Wrote : Rule → Walk → ℕ → List Event → List Offer → Walk → ℕ → List Event → Type 0
-Wrote r from count R os walk n R' = (walk ≡ walked r from os) × (n ≡ count + length (emitted r from os)) × (R' ≡ append R count (emitted r from os))

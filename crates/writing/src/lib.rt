@@ -1,10 +1,10 @@
 // A whole write, of a curve, a wave or a sine: its window is taken out of the list and its events are put behind what is
-// left. A list without room is refused before anything changes: where the steps alone do not show that there is room, a
-// counting run goes over the same offers, by the same step, as the writing run that then puts the events in.
+// left. A list without room is refused before anything changes: where the steps alone do not show that there is room, the
+// run that puts the events in goes over the same offers once before, behind an empty list, and so only counts.
 // Contracts are of the slice read whole as records, and of the budget by value.
 #![tactic(auto)]
 
-ghost use Rattle.std.specs.Prelude.{◌≡◌, false, List, [], ◌∷◌, ◌+◌, ◌≤◌, ◌<◌, ◌^◌, min, max, ltb, length};
+ghost use Rattle.std.specs.Prelude.{◌≡◌, false, List, [], ◌∷◌, ◌+◌, ◌≤◌, ◌<◌, ◌^◌, max, ltb, None, length};
 ghost use Rattle.std.specs.Int.Signed.{mag};
 ghost use Rattle.sines.specs.Table.{quarter_table};
 ghost use Rattle.budget.specs.Budgets.{step_budget};
@@ -12,7 +12,7 @@ ghost use Rattle.eventlist.specs.Rows.{rows_of};
 ghost use Rattle.eventlist.specs.Clearing.{Surveyed};
 ghost use Rattle.values.specs.Value.{Ready};
 ghost use Rattle.offers.specs.Rules.{rule_of, flagged};
-ghost use Rattle.offers.specs.Walks.{walked, emitted, append};
+ghost use Rattle.offers.specs.Walks.{walked, emitted, append, Wrote};
 ghost use Rattle.offers.specs.Pieces.{points_of, offers, total, Mild};
 ghost use Rattle.offers.specs.declared.Piece.{Piece};
 ghost use Rattle.offers.specs.Waves.{triples, triples_of};
@@ -24,7 +24,8 @@ ghost use Rattle.writing.specs.Figures.{budget_for, added_to, Shaped};
 ghost use Rattle.writing.specs.Sines.{sine_piece, sine_pieces};
 
 use budget::Budget;
-use eventlist::{Seen, Window};
+use eventlist::{Seen, WIDTH, Window};
+use numbers::Refusal;
 use offers::{Mode, Piece, Shape, Source, Walk};
 use sines::SineType;
 use values::Write;
@@ -53,33 +54,9 @@ pub struct Outcome {
     pub budget: Budget,
 }
 
-fn least(a: u64, b: u64) -> u64
-    ensures { result ≡ min a b }
-{
-    if a < b {
-        return a;
-    }
-    b
-}
-
-// The first `k` steps of a piece, counted only.
-fn count_piece(w: Write, from: Walk, t: Piece, at: u64, k: u64, quarter: &[u32; 1025]) -> Walk
-    requires { Ready w × Mild t at × (k ≤ t.len) × (quarter.now ≡ quarter_table) }
-    ensures { result ≡ walked (rule_of w) from (points_of w.freq at t k) }
-{
-    let mut walk = from;
-    let mut j: u64 = 0;
-    while j < k {
-        let o = offers::point(t, at, j, quarter);
-        let s = offers::take_offer(w, walk, o);
-        walk = s.walk;
-        j += w.freq;
-    }
-    walk
-}
-
-// The same, written behind the first `count` events.
-fn write_piece(
+// The first `k` steps of a piece, behind the first `count` events. They are written where the list has room for all of them, and
+// counted wherever: a run behind an empty list only counts.
+fn run_piece(
     w: Write,
     from: Walk,
     t: Piece,
@@ -90,64 +67,28 @@ fn write_piece(
     quarter: &[u32; 1025],
 ) -> Written
     requires ready { Ready w × Mild t at × (k ≤ t.len) × (quarter.now ≡ quarter_table) }
-    requires k_in_bounds { count + length (emitted (rule_of w) from (points_of w.freq at t k)) ≤ length (rows_of events.old) }
-    ensures { (result.walk ≡ walked (rule_of w) from (points_of w.freq at t k))
-        × (result.count ≡ count + length (emitted (rule_of w) from (points_of w.freq at t k)))
-        × (rows_of events.new ≡ append (rows_of events.old) count (emitted (rule_of w) from (points_of w.freq at t k))) }
+    requires counted { count + length (emitted (rule_of w) from (points_of w.freq at t k)) < 2 ^ 64 }
+    ensures { Wrote (rule_of w) from count (rows_of events.old) (points_of w.freq at t k) result.walk result.count (rows_of events.new) }
 {
     let mut walk = from;
     let mut n = count;
     let mut j: u64 = 0;
     while j < k {
-        let o = offers::point(t, at, j, quarter);
-        let s = offers::take_offer(w, walk, o);
+        let s = offers::take_offer(w, walk, offers::point(t, at, j, quarter));
         walk = s.walk;
-        j += w.freq;
-        if s.fits {
-            let e = s.event;
-            eventlist::write_event(events, n, e);
+        j += w.freq; // a u64, which `step_by` does not take
+        if let Some(e) = s.event {
+            if n < events.len() / WIDTH {
+                eventlist::write_event(events, n, e);
+            }
             n += 1;
         }
     }
-    Written {
-        walk: walk,
-        count: n,
-    }
+    Written { walk, count: n }
 }
 
-// The counting run over a wave: the walk that its triples come to in `limit` steps, with nothing written.
-fn count_source(
-    w: Write,
-    from: Walk,
-    source: Source,
-    numbers: &[i32],
-    limit: u64,
-    quarter: &[u32; 1025],
-) -> Walk
-    requires { Ready w × Runs source (triples numbers.now) × (quarter.now ≡ quarter_table) }
-    ensures { result ≡ walked (rule_of w) from (offers w.freq (rest_of (triples numbers.now) source) limit 0) }
-{
-    let mut walk = from;
-    let mut s = source;
-    let mut steps = limit;
-    let mut at: u64 = 0;
-    loop {
-        let n = offers::next_triple(s, numbers);
-        if n.more {
-            let t = n.piece;
-            let k = least(t.len, steps);
-            walk = count_piece(w, walk, t, at, k, quarter);
-            steps -= k;
-            at += t.len;
-            s = n.source;
-        } else {
-            return walk;
-        }
-    }
-}
-
-// The writing run over a wave: the same, written behind the first `count` events.
-fn write_source(
+// The same of a wave: the walk that its triples come to in `limit` steps.
+fn run_source(
     w: Write,
     from: Walk,
     source: Source,
@@ -158,59 +99,28 @@ fn write_source(
     quarter: &[u32; 1025],
 ) -> Written
     requires ready { Ready w × Runs source (triples numbers.now) × (quarter.now ≡ quarter_table) }
-    requires limit_in_bounds { count + length (emitted (rule_of w) from (offers w.freq (rest_of (triples numbers.now) source) limit 0)) ≤ length (rows_of events.old) }
-    ensures { (result.walk ≡ walked (rule_of w) from (offers w.freq (rest_of (triples numbers.now) source) limit 0))
-        × (result.count ≡ count + length (emitted (rule_of w) from (offers w.freq (rest_of (triples numbers.now) source) limit 0)))
-        × (rows_of events.new ≡ append (rows_of events.old) count (emitted (rule_of w) from (offers w.freq (rest_of (triples numbers.now) source) limit 0))) }
+    requires counted { count + length (emitted (rule_of w) from (offers w.freq (rest_of (triples numbers.now) source) limit 0)) < 2 ^ 64 }
+    ensures { Wrote (rule_of w) from count (rows_of events.old) (offers w.freq (rest_of (triples numbers.now) source) limit 0) result.walk result.count (rows_of events.new) }
 {
     let mut walk = from;
+    let mut n = count;
     let mut s = source;
     let mut steps = limit;
     let mut at: u64 = 0;
-    let mut c = count;
-    loop {
-        let n = offers::next_triple(s, numbers);
-        if n.more {
-            let t = n.piece;
-            let k = least(t.len, steps);
-            let d = write_piece(w, walk, t, at, k, events, c, quarter);
-            walk = d.walk;
-            c = d.count;
-            steps -= k;
-            at += t.len;
-            s = n.source;
-        } else {
-            return Written {
-                walk: walk,
-                count: c,
-            };
-        }
+    while let Some((t, next)) = offers::next_triple(s, numbers) {
+        let k = t.len.min(steps);
+        let done = run_piece(w, walk, t, at, k, events, n, quarter);
+        walk = done.walk;
+        n = done.count;
+        steps -= k;
+        at += t.len;
+        s = next;
     }
+    Written { walk, count: n }
 }
 
-// The counting run, of any origin.
-fn count_run(
-    w: Write,
-    from: Walk,
-    origin: Origin,
-    numbers: &[i32],
-    limit: u64,
-    quarter: &[u32; 1025],
-) -> Walk
-    requires { Ready w × Asked (triples numbers.now) origin × (quarter.now ≡ quarter_table) }
-    ensures { result ≡ walked (rule_of w) from (offers w.freq (pieces_of (triples numbers.now) origin) limit 0) }
-{
-    match origin {
-        Origin::Wave(source) => count_source(w, from, source, numbers, limit, quarter),
-        Origin::Sine(t) => {
-            let k = least(t.len, limit);
-            count_piece(w, from, t, 0, k, quarter)
-        }
-    }
-}
-
-// The writing run, of any origin.
-fn write_run(
+// The same, of any origin.
+fn run_origin(
     w: Write,
     from: Walk,
     origin: Origin,
@@ -221,20 +131,28 @@ fn write_run(
     quarter: &[u32; 1025],
 ) -> Written
     requires ready { Ready w × Asked (triples numbers.now) origin × (quarter.now ≡ quarter_table) }
-    requires limit_in_bounds { count + length (emitted (rule_of w) from (offers w.freq (pieces_of (triples numbers.now) origin) limit 0)) ≤ length (rows_of events.old) }
-    ensures { (result.walk ≡ walked (rule_of w) from (offers w.freq (pieces_of (triples numbers.now) origin) limit 0))
-        × (result.count ≡ count + length (emitted (rule_of w) from (offers w.freq (pieces_of (triples numbers.now) origin) limit 0)))
-        × (rows_of events.new ≡ append (rows_of events.old) count (emitted (rule_of w) from (offers w.freq (pieces_of (triples numbers.now) origin) limit 0))) }
+    requires counted { count + length (emitted (rule_of w) from (offers w.freq (pieces_of (triples numbers.now) origin) limit 0)) < 2 ^ 64 }
+    ensures { Wrote (rule_of w) from count (rows_of events.old) (offers w.freq (pieces_of (triples numbers.now) origin) limit 0) result.walk result.count (rows_of events.new) }
 {
     match origin {
-        Origin::Wave(source) => write_source(
-            w, from, source, numbers, limit, events, count, quarter,
-        ),
-        Origin::Sine(t) => {
-            let k = least(t.len, limit);
-            write_piece(w, from, t, 0, k, events, count, quarter)
-        }
+        Origin::Wave(source) => run_source(w, from, source, numbers, limit, events, count, quarter),
+        Origin::Sine(t) => run_piece(w, from, t, 0, t.len.min(limit), events, count, quarter),
     }
+}
+
+// The steps of the budget's write, counted only.
+fn count_run(w: Write, b: Budget, origin: Origin, numbers: &[i32], quarter: &[u32; 1025]) -> Written
+    requires { Ready w × Asked (triples numbers.now) origin × (quarter.now ≡ quarter_table) }
+    ensures { (result.walk ≡ walked (rule_of w) (record { last = None; budget = b }) (offers w.freq (pieces_of (triples numbers.now) origin) (step_budget b) 0))
+        × (result.count ≡ length (new_events_for w b (pieces_of (triples numbers.now) origin))) }
+{
+    let limit = u64::from(budget::safe_iteration_limit(b));
+    let from = Walk {
+        last: None,
+        budget: b,
+    };
+    let mut none: [i64; 1] = [0]; // no record fits
+    run_origin(w, from, origin, numbers, limit, &mut none, 0, quarter)
 }
 
 // The stretch of the list that a write of `long` steps takes out.
@@ -243,13 +161,11 @@ fn window_of(w: Write, long: u64) -> Window
     ensures { result ≡ window_of w long }
 {
     let start = values::start_of(w);
-    let kind = values::kind_of(w.target);
-    let number = values::widened(w.target);
     Window {
-        kind: kind,
-        number: number,
-        start: start,
-        end: start + (long as i64),
+        kind: values::kind_of(w.target),
+        number: i64::from(w.target),
+        start,
+        end: start + long as i64,
     }
 }
 
@@ -257,15 +173,7 @@ fn window_of(w: Write, long: u64) -> Window
 fn flag_if(b: Budget, short: bool) -> Budget
     ensures { result ≡ flagged b short }
 {
-    if short {
-        return Budget {
-            seed: b.seed,
-            maximum: b.maximum,
-            used: b.used,
-            over: 1,
-        };
-    }
-    b
+    if short { Budget { over: 1, ..b } } else { b }
 }
 
 // Whether a write adds more events than `free`. A step adds one at most; only where the steps are too many for that to
@@ -282,18 +190,12 @@ fn lacks_room(
     requires { Ready w × Asked (triples numbers.now) origin × (quarter.now ≡ quarter_table) × (long ≡ total (pieces_of (triples numbers.now) origin)) }
     ensures { result ≡ ltb free (length (new_events_for w b (pieces_of (triples numbers.now) origin))) }
 {
-    let limit = budget::safe_iteration_limit(b) as u64;
-    if least(long, limit) <= free as u64 {
-        return false;
+    let limit = u64::from(budget::safe_iteration_limit(b));
+    if long.min(limit) <= free as u64 {
+        false
+    } else {
+        free < count_run(w, b, origin, numbers, quarter).count
     }
-    let from = Walk {
-        any: false,
-        last: 0,
-        budget: b,
-    };
-    let walk = count_run(w, from, origin, numbers, limit, quarter);
-    let after = walk.budget;
-    free < ((after.used - b.used) / 8) as usize
 }
 
 // A write of `long` steps, of any origin, into a list in which the survey has `seen` what its window takes: that is taken out
@@ -318,24 +220,22 @@ fn write_core(
     let free = events.len() / 8 - (count - seen.taken);
     if lacks_room(w, b, origin, long, numbers, free, quarter) {
         return Outcome {
-            code: 7,
-            count: count,
+            code: Refusal::NoRoom.number(),
+            count,
             budget: b,
         };
     }
     let kept = eventlist::clear_windows(events, count, windows, seen);
-    let limit = budget::safe_iteration_limit(b) as u64;
+    let limit = u64::from(budget::safe_iteration_limit(b));
     let from = Walk {
-        any: false,
-        last: 0,
+        last: None,
         budget: b,
     };
-    let done = write_run(w, from, origin, numbers, limit, events, kept.left, quarter);
-    let after = done.walk.budget;
+    let done = run_origin(w, from, origin, numbers, limit, events, kept.left, quarter);
     Outcome {
         code: 0,
         count: done.count,
-        budget: flag_if(after, limit < long),
+        budget: flag_if(done.walk.budget, limit < long),
     }
 }
 
@@ -373,10 +273,7 @@ fn write_tested(
 pub fn at_least_one(n: u64) -> u64
     ensures { result ≡ max n 1 }
 {
-    if n < 1 {
-        return 1;
-    }
-    n
+    n.max(1)
 }
 
 // How many steps a list's triples last in a mode over `n` steps.
@@ -385,16 +282,13 @@ fn wave_long(mode: Mode, numbers: &[i32], n: u64) -> u64
     ensures { result ≡ total (triples_of mode (triples numbers.now) n) }
 {
     let own = offers::total_of(numbers);
-    if n == 0 {
-        return own;
-    }
-    if own == 0 {
-        return own;
-    }
-    match mode {
-        Mode::Normal => own,
-        Mode::Expand => n,
-        Mode::Repeat => n,
+    if n == 0 || own == 0 {
+        own
+    } else {
+        match mode {
+            Mode::Normal => own,
+            Mode::Expand | Mode::Repeat => n,
+        }
     }
 }
 
@@ -451,8 +345,7 @@ fn is_cut(mode: Mode, n: u64, limit: u64) -> bool
 {
     match mode {
         Mode::Normal => false,
-        Mode::Expand => limit < n,
-        Mode::Repeat => limit < n,
+        Mode::Expand | Mode::Repeat => limit < n,
     }
 }
 
@@ -461,16 +354,13 @@ fn sine_piece(stype: SineType, low: i32, high: i32, len: i32, times: i32) -> Pie
     requires { (mag low ≤ 16383) × (mag high ≤ 16383) × (mag len ≤ 2 ^ 20) × (mag times ≤ 2 ^ 20) }
     ensures { (result ≡ sine_piece stype low high len times) × Mild result 0 }
 {
-    let turn = offers::length_of(values::widened(len));
-    let turns = at_least_one(offers::length_of(values::widened(times)));
-    let from = values::widened(low);
-    let to = values::widened(high);
-    let whole = at_least_one(turn);
+    let turn = offers::length_of(i64::from(len));
+    let turns = offers::length_of(i64::from(times)).max(1);
     Piece {
-        low: from,
-        high: to,
+        low: i64::from(low),
+        high: i64::from(high),
         len: turn * turns,
-        shape: Shape::Turn(stype, whole),
+        shape: Shape::Turn(stype, turn.max(1)),
     }
 }
 
@@ -495,12 +385,11 @@ pub fn write_sine(
     let quarter = sines::table::quarter_table();
     let piece = sine_piece(stype, low, high, len, times);
     let none: [i32; 1] = [0];
-    let long = piece.len;
     write_tested(
         w,
         b,
         Origin::Sine(piece),
-        long,
+        piece.len,
         &none,
         events,
         count,
@@ -525,13 +414,11 @@ pub fn wave_figure(b: Budget, mode: Mode, numbers: &[i32], n: u64) -> Figure
         × (pieces_of (triples numbers.now) result.origin ≡ wave_triples b mode (triples numbers.now) n)
         × (result.cut ≡ cut_by mode n (step_budget b)) }
 {
-    let limit = budget::safe_iteration_limit(b) as u64;
-    let steps = least(n, limit);
-    let source = offers::start_source(mode, numbers, steps);
-    let long = wave_long(mode, numbers, steps);
+    let limit = u64::from(budget::safe_iteration_limit(b));
+    let steps = n.min(limit);
     Figure {
-        origin: Origin::Wave(source),
-        long: long,
+        origin: Origin::Wave(offers::start_source(mode, numbers, steps)),
+        long: wave_long(mode, numbers, steps),
         cut: is_cut(mode, n, limit),
     }
 }
@@ -542,10 +429,9 @@ pub fn sine_figure(stype: SineType, low: i32, high: i32, len: i32, times: i32) -
     ensures { ((ts : List Piece) → Shaped result ts × (pieces_of ts result.origin ≡ sine_pieces stype low high len times)) × (result.cut ≡ false) }
 {
     let piece = sine_piece(stype, low, high, len, times);
-    let long = piece.len;
     Figure {
         origin: Origin::Sine(piece),
-        long: long,
+        long: piece.len,
         cut: false,
     }
 }
@@ -569,17 +455,9 @@ pub fn foresee(
     requires { Ready w × Shaped figure (triples numbers.now) × (quarter.now ≡ quarter_table) }
     ensures { result ≡ flagged (budget_for w b (pieces_of (triples numbers.now) figure.origin)) figure.cut }
 {
-    let limit = budget::safe_iteration_limit(b) as u64;
-    let from = Walk {
-        any: false,
-        last: 0,
-        budget: b,
-    };
-    let origin = figure.origin;
-    let walk = count_run(w, from, origin, numbers, limit, quarter);
-    let after = walk.budget;
-    let rest = flag_if(after, limit < figure.long);
-    flag_if(rest, figure.cut)
+    let limit = u64::from(budget::safe_iteration_limit(b));
+    let after = count_run(w, b, figure.origin, numbers, quarter).walk.budget;
+    flag_if(flag_if(after, limit < figure.long), figure.cut)
 }
 
 // Puts a figure's events, for which there is room, behind the first `count`. Its window is not asked.
@@ -597,16 +475,22 @@ pub fn add_figure(
     ensures { (result ≡ added_to count (new_events_for w b (pieces_of (triples numbers.now) figure.origin)) (flagged (budget_for w b (pieces_of (triples numbers.now) figure.origin)) figure.cut))
         × (rows_of events.new ≡ append (rows_of events.old) count (new_events_for w b (pieces_of (triples numbers.now) figure.origin))) }
 {
-    let limit = budget::safe_iteration_limit(b) as u64;
+    let limit = u64::from(budget::safe_iteration_limit(b));
     let from = Walk {
-        any: false,
-        last: 0,
+        last: None,
         budget: b,
     };
-    let origin = figure.origin;
-    let done = write_run(w, from, origin, numbers, limit, events, count, quarter);
-    let after = done.walk.budget;
-    let rest = flag_if(after, limit < figure.long);
+    let done = run_origin(
+        w,
+        from,
+        figure.origin,
+        numbers,
+        limit,
+        events,
+        count,
+        quarter,
+    );
+    let rest = flag_if(done.walk.budget, limit < figure.long);
     Outcome {
         code: 0,
         count: done.count,

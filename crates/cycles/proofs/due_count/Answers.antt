@@ -50,8 +50,8 @@ overflow_add-result c =
     rw (sub_back c.ranges.until (F.fits_next x s) (F.fits-gap x s c.args.until c.requires.1), to_z-of_z (F.fits-length x s), F.nat_abs-cut x.length s.forward)
     (omega (arith, div-le_self g (cut x.length), F.gap-size x s c.args.until c.requires.1 e))
 
-pub returns : goal.returns
-returns c =
+pub returns-else-until-c : goal.returns-else-until-c
+returns-else-until-c c =
     let x = c.args.c in
     let s = sound x c.requires.0 in
     let e = lt_back c.ranges.until (F.fits_next x s) c.if-until-c.false in

@@ -16,11 +16,11 @@ use Rattle.cycles.specs.Due.{write_of}
 use Rattle.cycles.proofs.Rules.{sound}
 use Rattle.cycles.proofs.value_of.Goals as goal
 
-pub offset_bounds-values-i : goal.offset_bounds-values-i
-offset_bounds-values-i c = let s = sound c.args.c c.requires in omega arith
+pub offset_bounds-c-c : goal.offset_bounds-c-c
+offset_bounds-c-c c = let s = sound c.args.c c.requires in omega arith
 
-pub bounds-values-i : goal.bounds-values-i
-bounds-values-i c = let s = sound c.args.c c.requires in omega arith
+pub bounds-c-c : goal.bounds-c-c
+bounds-c-c c = let s = sound c.args.c c.requires in omega arith
 
 pub returns : goal.returns
 unfolding write_of is_number

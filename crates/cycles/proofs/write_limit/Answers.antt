@@ -1,4 +1,5 @@
 -- `cycles::write_limit`: the lesser of the two, and so within the bound under which a count for each record stops nothing.
+use mathlib.Core.Path.{◌∙◌}
 use native.Mathlib.Omega.{arith}
 use Rattle.cycles.specs.Calls.{limit}
 use Rattle.cycles.proofs.Loop.{unstopped}
@@ -6,7 +7,7 @@ use Rattle.cycles.proofs.write_limit.Goals as goal
 
 pub returns : goal.returns
 unfolding limit
-returns c = (
-  unstopped c.lesser.result (omega (arith, c.lesser.ensures)),
-  omega (arith, c.lesser.ensures, c.safe_iteration_limit-most.ensures),
-)
+returns c =
+    let m = c.min.ensures in
+    let f = c.from.ensures ∙ c.safe_iteration_limit.ensures in
+    (unstopped c.min.result (omega arith), omega arith)

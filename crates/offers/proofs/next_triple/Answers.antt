@@ -27,13 +27,13 @@ within l s b ok e q = inside (triples l) s ok s.mode refl (tested l s b true e q
 pub triple_at-t-requires : goal.triple_at-t-requires
 triple_at-t-requires c = within c.args.numbers.now c.args.s c.has_more.result c.requires.0 c.has_more.ensures c.if-has_more.true
 
-pub overflow_add-at : goal.overflow_add-at
-overflow_add-at c =
+pub overflow_add-s : goal.overflow_add-s
+overflow_add-s c =
     let l = c.args.numbers.now in
     omega (arith, within l c.args.s c.has_more.result c.requires.0 c.has_more.ensures c.if-has_more.true, length-triples l, c.well_formed.1.0)
 
-pub source_after-after-requires : goal.source_after-after-requires
-source_after-after-requires c =
+pub source_after-requires : goal.source_after-requires
+source_after-requires c =
     let l = c.args.numbers.now in
     omega (arith, within l c.args.s c.has_more.result c.requires.0 c.has_more.ensures c.if-has_more.true, length-triples l)
 
@@ -46,13 +46,13 @@ returns-then-has_more c =
     rw (
       to_z-of_z {w = w64} {z = c.triple_at-t.result.low} low,
       to_z-of_z {w = w64} {z = c.triple_at-t.result.high} high,
-      c.source_after-after.ensures,
+      c.source_after.ensures,
       c.next_length-len.ensures,
       c.triple_at-t.ensures,
       tested l c.args.s c.has_more.result true c.has_more.ensures c.if-has_more.true,
       length-triples l,
     )
 
-pub returns : goal.returns
+pub returns-else-has_more : goal.returns-else-has_more
 unfolding next_of
-returns c = rw (tested c.args.numbers.now c.args.s c.has_more.result false c.has_more.ensures c.if-has_more.false)
+returns-else-has_more c = rw (tested c.args.numbers.now c.args.s c.has_more.result false c.has_more.ensures c.if-has_more.false)

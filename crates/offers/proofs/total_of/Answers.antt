@@ -18,17 +18,17 @@ one l i t e h =
     total-drop (triples l) i (omega (arith, length-triples l))
     ∙ ap (λ (u : Piece). u.len + total (drop (i + 1) (triples l))) (sym e)
 
-pub triple_at-t-requires : goal.triple_at-t-requires
-triple_at-t-requires c = omega (arith, length-triples c.args.numbers.now)
+pub triple_at-sum-requires : goal.triple_at-sum-requires
+triple_at-sum-requires c = omega (arith, length-triples c.args.numbers.now)
 
 pub overflow_add-sum : goal.overflow_add-sum
 overflow_add-sum c =
     let l = c.args.numbers.now in
-    omega (arith, c.loop-i.invariant, one l c.loop-i.i c.triple_at-t.result c.triple_at-t.ensures (omega arith), total-le (triples l) c.requires.tame, c.requires.few)
+    omega (arith, c.loop-i.invariant, one l c.loop-i.i c.triple_at-sum.result c.triple_at-sum.ensures (omega arith), total-le (triples l) c.requires.tame, c.requires.few)
 
 pub loop-i-preserved : goal.loop-i-preserved
 loop-i-preserved c =
-    omega (arith, c.loop-i.invariant, one c.args.numbers.now c.loop-i.i c.triple_at-t.result c.triple_at-t.ensures (omega arith))
+    omega (arith, c.loop-i.invariant, one c.args.numbers.now c.loop-i.i c.triple_at-sum.result c.triple_at-sum.ensures (omega arith))
 
 pub returns : goal.returns
 returns c =

@@ -2,14 +2,15 @@
 use mathlib.Core.Path.{◌≡◌, refl, ◌∙◌}
 use mathlib.Core.Bool.{false}
 use Prim.Native.Nat.{◌<◌, ◌^◌}
-use lib.IntN.{ℤ, pos}
+use lib.IntN.{ℤ, pos, ◌+ℤ◌, ◌*ℤ◌}
 use lib.Signed.{mag}
 use mir.Syntax.{w32, w64}
 use mir.Val.{SFits}
 use mir.Facts.{to_z-of_z}
 use native.Mathlib.Omega.{arith}
 use borrow.Author.Rules.{rules, sfits_of}
-use Rattle.laws.proofs.Signed.{lt-back-l}
+use Rattle.laws.proofs.Signed.{lt-back-l, mag-add, mag-mul}
+use Rattle.laws.proofs.Fitting.{fit}
 use Rattle.laws.proofs.Bits.{bits-eq, bits-differ}
 use Rattle.laws.specs.Integers.{eq_z}
 use Rattle.values.specs.Clamp.{clamped, scaled_for, top_of}
@@ -40,14 +41,14 @@ unfolding clamped scaled_for top_of
 returns-in-128 c =
     let e : c.args.target ≡ pos 128 = bits-eq c.ranges.target (small {z = pos 128} (omega arith)) (search rules) in
     to_z-of_z {w = w64} (sfits_of c.value_range.type_inv) ∙ c.value_range.ensures
-    ∙ rw (to_z-of_z {w = w64} (sfits_of c.scaled.type_inv), c.scaled.ensures, to_z-of_z c.ranges.v, e, told-above (pos 128) refl)
+    ∙ rw (to_z-of_z c.ranges.v, to_z-of_z (fit w64 (c.args.v *ℤ pos 128) (omega (arith, mag-mul c.args.v 128))), e, told-above (pos 128) refl)
 
 pub returns-in-129 : goal.returns-in-129
 unfolding clamped scaled_for top_of
 returns-in-129 c =
     let e : c.args.target ≡ pos 129 = bits-eq c.ranges.target (small {z = pos 129} (omega arith)) (search rules) in
     to_z-of_z {w = w64} (sfits_of c.value_range-in-129.type_inv) ∙ c.value_range-in-129.ensures
-    ∙ rw (to_z-of_z {w = w64} (sfits_of c.raised.type_inv), c.raised.ensures, to_z-of_z c.ranges.v, e, told-above (pos 129) refl)
+    ∙ rw (to_z-of_z c.ranges.v, to_z-of_z (fit w64 (c.args.v +ℤ pos 8192) (omega (arith, mag-add c.args.v (pos 8192)))), e, told-above (pos 129) refl)
 
 pub returns-in-0-to-127 : goal.returns-in-0-to-127
 unfolding clamped scaled_for top_of

@@ -1,6 +1,6 @@
 -- The budget's random step and the option's range give the value that the definition says (`spread-seed`), the bytes are asked of the
 -- budget after that step.
-use mathlib.Core.Path.{◌≡◌, refl, sym, ap, ap₂, subst, ◌∙◌}
+use mathlib.Core.Path.{◌≡◌, sym, ap, ap₂, subst, ◌∙◌}
 use mathlib.Core.Bool.{Bool}
 use native.Mathlib.Omega.{arith}
 use Prim.Native.Nat.{◌≤◌, ◌<◌, ◌^◌}
@@ -26,6 +26,7 @@ use Rattle.values.specs.Value.{Near, event_for, event_of_offer, next_seed, time_
 use Rattle.values.proofs.Paying.{spread-seed}
 use borrow.Author.Rules.{rules}
 use Rattle.values.proofs.one_value.Goals as goal
+use Rattle.values.proofs.one_value.Goals.{After-make_event}
 
 cut-le : (z : ℤ) → cut z ≤ mag z
 cut-le (pos n) = omega arith
@@ -62,7 +63,7 @@ module _ (w : Write) (b : Budget) (o : Offer) {x : ℤ} {r : Rolled} (n : Near o
   rolled-bits = let h = rolled-small in to_z-of_z (let f : SFits w64 r.value = omega arith in f)
 
 -- the value that is clamped, and the event that it becomes
-module _ (c : goal.After-after-1) where
+module _ (c : After-make_event) where
   abbrev w : Write
   w = c.args.w
 
@@ -70,7 +71,7 @@ module _ (c : goal.After-after-1) where
   random-small = search rules
 
   roll : c.calc_rand_value-moved.result ≡ rolled c.args.o.value w.option.random c.args.b
-  roll = rolled-is w c.args.b c.args.o c.requires.1 random-small c.widened.ensures.0 c.calc_rand_value-moved.ensures
+  roll = rolled-is w c.args.b c.args.o c.requires.1 random-small c.from.ensures c.calc_rand_value-moved.ensures
 
   seed-is : spread c.args.o.value w.option.random (next_rand c.args.b.seed) ≡ spread c.args.o.value w.option.random (next_seed w c.args.b.seed)
   seed-is = spread-seed c.args.o.value w.option.random c.args.b.seed
@@ -78,7 +79,7 @@ module _ (c : goal.After-after-1) where
   limit_is : c.limit.result ≡ moved w.option c.args.o.value (next_seed w c.args.b.seed)
   unfolding moved
   limit_is =
-      let bits = rolled-bits w c.args.b c.args.o c.requires.1 random-small c.widened.ensures.0 c.calc_rand_value-moved.ensures in
+      let bits = rolled-bits w c.args.b c.args.o c.requires.1 random-small c.from.ensures c.calc_rand_value-moved.ensures in
       c.limit.ensures.0 ∙ ap (limited (range_in w.option)) (bits ∙ ap (λ (r : Rolled). r.value) roll ∙ seed-is)
 
   target-bits : to_z w32 (of_z w32 w.target) ≡ w.target
@@ -95,21 +96,15 @@ module _ (c : goal.After-after-1) where
   time-is : to_z w64 (of_z w64 c.time_of.result) ≡ time_of w c.args.o.step
   time-is = to_z-of_z {w = w64} (sfits_of c.time_of.type_inv) ∙ c.time_of.ensures
 
-  event-is : c.make_event-event.result ≡ event_of_offer w c.args.o (next_seed w c.args.b.seed)
+  event-is : c.make_event.result ≡ event_of_offer w c.args.o (next_seed w c.args.b.seed)
   unfolding event_of_offer
-  event-is = c.make_event-event.ensures ∙ event-same target-bits time-is channel-bits clamp-is
-
-pub calc_rand_value-moved-requires : goal.calc_rand_value-moved-requires
-calc_rand_value-moved-requires c =
-    let near = c.requires.1 in
-    let m : mag c.args.w.option.random < 2 ^ 31 = search rules in
-    (rw (value-is c.args.w c.args.b c.args.o near m c.widened.ensures.0 refl) (let n = near.value in omega arith), rw (random-is c.args.w c.args.b c.args.o near m c.widened.ensures.0 refl) (omega arith))
+  event-is = c.make_event.ensures ∙ event-same target-bits time-is channel-bits clamp-is
 
 pub limit-requires : goal.limit-requires
 limit-requires c =
     let m : mag c.args.w.option.random < 2 ^ 31 = search rules in
     let e = c.calc_rand_value-moved.ensures in
-    let p = c.widened.ensures.0 in
+    let p = c.from.ensures in
     rw (rolled-bits c.args.w c.args.b c.args.o c.requires.1 m p e) (rolled-small c.args.w c.args.b c.args.o c.requires.1 m p e)
 
 pub returns : goal.returns

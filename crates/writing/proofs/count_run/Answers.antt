@@ -1,24 +1,39 @@
--- By the origin: a wave's run is the loop over its source, a sine's the one piece.
-use mathlib.Core.Path.{sym, ap, ◌∙◌}
+-- At the step budget a run comes to the walk of the closed form, and counts its events: never more than there are steps.
+use mathlib.Core.Path.{◌≡◌, ap, ◌∙◌}
+use mathlib.Core.List.{List}
 use native.Mathlib.Omega.{arith}
 use Prim.Native.Nat.{ℕ}
-use mathlib.Core.List.{List}
+use lib.ListN.{length}
+use Rattle.budget.specs.Budgets.{step_budget}
 use Rattle.offers.specs.declared.Piece.{Piece}
 use Rattle.offers.specs.Rules.{rule_of}
 use Rattle.offers.specs.Walks.{walked}
-use Rattle.offers.specs.Pieces.{points_of, offers}
+use Rattle.offers.specs.Pieces.{offers}
 use Rattle.offers.specs.Waves.{triples}
-use Rattle.writing.proofs.Origins.{wave-pieces, wave-asked, sine-asked, sine-offers}
-use borrow.Author.Rules.{rules}
+use Rattle.writing.specs.Origins.{pieces_of}
+use Rattle.writing.proofs.Calling.{from, appends, few-new}
+use Rattle.writing.proofs.count_run.Goals.{After-from-limit}
 use Rattle.writing.proofs.count_run.Goals as goal
 
-pub returns-in-Wave : goal.returns-in-Wave
-returns-in-Wave c =
-    c.count_source.ensures
-    ∙ sym (ap (λ (ts : List Piece). walked (rule_of c.args.w) c.args.from (offers c.args.w.freq ts c.args.limit 0)) (wave-pieces (triples c.args.numbers.now) c.in-Wave.is))
+module _ (c : After-from-limit) where
+  abbrev ts : List Piece
+  ts = pieces_of (triples c.args.numbers.now) c.args.origin
 
-pub returns-in-Sine : goal.returns-in-Sine
-returns-in-Sine c =
-    c.count_piece.ensures
-    ∙ ap (λ (k : ℕ). walked (rule_of c.args.w) c.args.from (points_of c.args.w.freq 0 c.in-Sine.t k)) c.least-k.ensures
-    ∙ sym (ap (walked (rule_of c.args.w) c.args.from) (sine-offers (triples c.args.numbers.now) c.args.w.freq c.args.limit c.in-Sine.is))
+  limit-is : c.from-limit.result ≡ step_budget c.args.b
+  limit-is = c.from-limit.ensures ∙ c.safe_iteration_limit.ensures
+
+pub run_origin-requires-clause-counted : goal.run_origin-requires-clause-counted
+run_origin-requires-clause-counted c =
+    let s = (goal.at.run_origin-requires-clause-counted c).After-from-limit in
+    let e = ap length (appends c.args.w c.args.b (ts s) c.from-limit.result (limit-is s)) in
+    let g = c.safe_iteration_limit.ensures in
+    omega (arith, few-new c.args.w c.args.b (ts s))
+
+pub returns : goal.returns
+returns c =
+    let s = (goal.at.returns c).After-from-limit in
+    let w = c.run_origin.ensures in
+    let e = ap length (appends c.args.w c.args.b (ts s) c.from-limit.result (limit-is s)) in (
+      w.0 ∙ ap (λ (n : ℕ). walked (rule_of c.args.w) (from c.args.w c.args.b (offers c.args.w.freq (ts s) n 0)) (offers c.args.w.freq (ts s) n 0)) (limit-is s),
+      omega (arith, w.1),
+    )

@@ -1,19 +1,13 @@
 -- The counting run, at the step budget, comes to the budget of the closed form; the two flags are set besides.
 use mathlib.Core.Path.{◌≡◌, ap, ◌∙◌}
-use mathlib.Core.List.{List}
-use Prim.Native.Nat.{ℕ}
 use Rattle.budget.specs.declared.Budget.{Budget}
 use Rattle.budget.specs.Budgets.{step_budget}
-use Rattle.values.specs.declared.Offer.{Offer}
-use Rattle.offers.specs.declared.Piece.{Piece}
-use Rattle.offers.specs.Rules.{rule_of, flagged}
-use Rattle.offers.specs.Walks.{walked}
+use Rattle.offers.specs.Rules.{flagged}
 use Rattle.offers.specs.Pieces.{offers, total}
 use Rattle.offers.specs.Waves.{triples}
 use Rattle.writing.specs.Origins.{pieces_of}
 use Rattle.writing.specs.Figures.{budget_for}
-use Rattle.writing.proofs.Calling.{from, budget-end}
-use borrow.Author.Rules.{rules}
+use Rattle.writing.proofs.Calling.{budget-end}
 use Rattle.writing.proofs.foresee.Goals as goal
 
 pub returns : goal.returns
@@ -21,8 +15,8 @@ returns c =
     let A = c.args in
     let ts = pieces_of (triples A.numbers.now) A.figure.origin in
     let all = offers A.w.freq ts (step_budget A.b) 0 in
-    let g = c.safe_iteration_limit-limit.ensures in
-    let walk = c.count_run-walk.ensures ∙ ap (λ (n : ℕ). walked (rule_of A.w) (from A.w A.b all) (offers A.w.freq ts n 0)) g in
-    let rest : c.flag_if-rest.result ≡ budget_for A.w A.b ts =
-    budget-end {k = c.count_run-walk.result} A.w A.b all (total ts) c.flag_if-rest.ensures walk g c.requires.1.long in
-    c.flag_if.ensures ∙ ap (λ (x : Budget). flagged x A.figure.cut) rest
+    let g = c.from-limit.ensures ∙ c.safe_iteration_limit.ensures in
+    let walk = c.count_run.ensures.0 in
+    let rest : c.flag_if.result ≡ budget_for A.w A.b ts =
+    budget-end {k = c.count_run.result.walk} A.w A.b all (total ts) c.flag_if.ensures walk g c.requires.1.long in
+    c.flag_if-2.ensures ∙ ap (λ (x : Budget). flagged x A.figure.cut) rest

@@ -6,7 +6,6 @@ use Rattle.writing.specs.declared.Origin.TheVariants.{Sine}
 use Rattle.writing.specs.Sines.{sine_piece}
 use Rattle.writing.proofs.Origins.{sine-total}
 use Rattle.writing.proofs.Writes.{sine-gives}
-use borrow.Author.Rules.{rules}
 use Rattle.writing.proofs.sine_figure.Goals as goal
 
 pub returns : goal.returns

@@ -10,19 +10,18 @@ use Rattle.offers.specs.Sources.{Runs}
 use Rattle.offers.proofs.Taming.{runs}
 use Rattle.writing.specs.Waves.{cut_by}
 use Rattle.writing.proofs.Writes.{wave-gives}
-use borrow.Author.Rules.{rules}
 use Rattle.writing.proofs.wave_figure.Goals as goal
 
 pub returns : goal.returns
 returns c =
     let ts = triples c.args.numbers.now in
-    let steps : c.least-steps.result ≡ min c.args.n (step_budget c.args.b) = c.least-steps.ensures ∙ ap (min c.args.n) c.safe_iteration_limit-limit.ensures in
-    let few : c.least-steps.result ≤ 2 ^ 24 = let m = c.requires.1 in omega arith in
-    let gives = wave-gives c.args.mode ts c.least-steps.result c.start_source-source.ensures in (
+    let steps : c.min-steps.result ≡ min c.args.n (step_budget c.args.b) = c.min-steps.ensures ∙ ap (min c.args.n) (c.from-limit.ensures ∙ c.safe_iteration_limit.ensures) in
+    let few : c.min-steps.result ≤ 2 ^ 24 = let m = c.requires.1 in omega arith in
+    let gives = wave-gives c.args.mode ts c.min-steps.result c.start_source.ensures in (
       record {
-        asked = subst (λ (x : Source). Runs x ts) (sym c.start_source-source.ensures) (runs ts c.least-steps.result c.requires.0.tame c.requires.0.few few c.args.mode);
-        long = c.wave_long-long.ensures ∙ sym (ap total gives);
+        asked = subst (λ (x : Source). Runs x ts) (sym c.start_source.ensures) (runs ts c.min-steps.result c.requires.0.tame c.requires.0.few few c.args.mode);
+        long = c.wave_long.ensures ∙ sym (ap total gives);
       },
       gives ∙ ap (triples_of c.args.mode ts) steps,
-      c.is_cut.ensures ∙ ap (cut_by c.args.mode c.args.n) c.safe_iteration_limit-limit.ensures,
+      c.is_cut.ensures ∙ ap (cut_by c.args.mode c.args.n) (c.from-limit.ensures ∙ c.safe_iteration_limit.ensures),
     )

@@ -14,7 +14,7 @@ use Rattle.writing.proofs.window_of.Goals as goal
 window : {k l n m a b d e : ℤ} → k ≡ l → n ≡ m → a ≡ b → d ≡ e → ◌≡◌ {A = Window} (record { kind = k; number = n; start = a; end = d }) (record { kind = l; number = m; start = b; end = e })
 window p q r s = cc
 
-module _ (c : goal.After-widened-number) where
+module _ (c : goal.After-from) where
   target_is : to_z w32 (of_z w32 c.args.w.target) ≡ c.args.w.target
   target_is = to_z-of_z {w = w32} {z = c.args.w.target} (search rules)
 
@@ -34,7 +34,7 @@ pub returns : goal.returns
 unfolding window_of
 returns c =
     window
-    (to_z-of_z {w = w64} (sfits_of c.kind_of-kind.type_inv) ∙ c.kind_of-kind.ensures ∙ ap kind_of (target_is c))
-    (to_z-of_z {w = w64} (sfits_of c.widened-number.type_inv) ∙ c.widened-number.ensures.0 ∙ target_is c)
+    (to_z-of_z {w = w64} (sfits_of c.kind_of.type_inv) ∙ c.kind_of.ensures ∙ ap kind_of (target_is c))
+    (to_z-of_z {w = w64} (sfits_of c.from.type_inv) ∙ c.from.ensures ∙ target_is c)
     (start-bits c ∙ c.start_of-start.ensures.0)
     (rw (start-bits c, long-is c) (to_z-of_z (fit c) ∙ ap (λ (z : ℤ). z +ℤ pos c.args.long) c.start_of-start.ensures.0))

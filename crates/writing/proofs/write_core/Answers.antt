@@ -1,6 +1,6 @@
 -- What the window keeps and what is added decide the refusal. Where there is room, what the writing run appends to what the window left
 -- is the definition's list, and its walk has the definition's budget.
-use mathlib.Core.Path.{◌≡◌, sym, ap, ap₂, ◌∙◌}
+use mathlib.Core.Path.{◌≡◌, refl, sym, ap, ap₂, ◌∙◌}
 use mathlib.Core.Bool.{Bool, false}
 use mathlib.Core.List.{List, [], ◌∷◌, ◌++◌}
 use native.Mathlib.Omega.{arith}
@@ -9,7 +9,6 @@ use borrow.Author.Tests.{ltb-false}
 use lib.Dec.{ltb}
 use lib.IntN.{ℤ}
 use lib.ListN.{length, length-append}
-use borrow.Author.Rules.{rules}
 use Rattle.laws.specs.Lists.{put_first}
 use Rattle.budget.specs.declared.Budget.{Budget}
 use Rattle.budget.specs.Budgets.{step_budget}
@@ -101,30 +100,33 @@ pub returns-then-lacks_room : goal.returns-then-lacks_room
 unfolding outcome_of rows_after
 returns-then-lacks_room c =
     let q = sym (full_by (goal.at.returns-then-lacks_room c).Start c.lacks_room.ensures) ∙ c.if-lacks_room.true in
-    (sym (rw q), sym (rw q))
+    rw (c.number.ensures, q) (refl, refl)
 
-pub write_run-done-requires-clause-limit_in_bounds : goal.write_run-done-requires-clause-limit_in_bounds
-write_run-done-requires-clause-limit_in_bounds c =
-    let s = (goal.at.write_run-done-requires-clause-limit_in_bounds c).Start in
+pub run_origin-done-requires-clause-counted : goal.run_origin-done-requires-clause-counted
+run_origin-done-requires-clause-counted c =
+    let s = (goal.at.run_origin-done-requires-clause-counted c).Start in
     let room = sym (full_by s c.lacks_room.ensures) ∙ c.if-lacks_room.false in
     let kept = ap (λ (r : Cleared). r.left) c.clear_windows-kept.ensures.0 in
-    rw (appends s _ c.safe_iteration_limit-limit.ensures) (enough s c.clear_windows-kept.new.events kept room c.clear_windows-kept.auto.events)
+    let e = c.from-limit.ensures ∙ c.safe_iteration_limit.ensures in
+    let long = c.clear_windows-kept.auto.events in
+    let fits = c.well_formed in
+    rw (appends s _ e) (omega (arith, enough s c.clear_windows-kept.new.events kept room long, length-rows_of c.clear_windows-kept.new.events))
 
 pub returns : goal.returns
 unfolding outcome_of rows_after
 returns c =
     let s = (goal.at.returns c).Start in
     let A = s.args in
-    let g = c.safe_iteration_limit-limit.ensures in
+    let g = c.from-limit.ensures ∙ c.safe_iteration_limit.ensures in
     let p = appends s _ g in
     let room = sym (full_by s c.lacks_room.ensures) ∙ c.if-lacks_room.false in
     let left = ap (λ (r : Cleared). r.left) c.clear_windows-kept.ensures.0 ∙ ap length (keeps-are s) in
     let kept : rows_of c.clear_windows-kept.new.events ≡ put_first zero_event A.count (keeps s) (R s) =
     c.clear_windows-kept.ensures.1 ∙ ap (λ (es : List Event). put_first zero_event A.count es (R s)) (keeps-are s) in
-    let rows : rows_of c.write_run-done.new.events ≡ put_first zero_event A.count (keeps s ++ news s) (R s) =
-    rows_end zero_event A.count (keeps s) (news s) (R s) c.write_run-done.ensures.2 left kept p in
-    let count : c.write_run-done.result.count ≡ length (keeps s ++ news s) = count-end (keeps s) (news s) c.write_run-done.ensures.1 left p in
-    let walk = c.write_run-done.ensures.0 ∙ ap (λ (n : ℕ). walked (rule_of A.w) (from A.w A.b (all s)) (within s n)) g in
+    let rows : rows_of c.run_origin-done.new.events ≡ put_first zero_event A.count (keeps s ++ news s) (R s) =
+    rows_end zero_event A.count (keeps s) (news s) (R s) (c.run_origin-done.ensures.2 (rw p (enough s c.clear_windows-kept.new.events (ap (λ (r : Cleared). r.left) c.clear_windows-kept.ensures.0) room c.clear_windows-kept.auto.events))) left kept p in
+    let count : c.run_origin-done.result.count ≡ length (keeps s ++ news s) = count-end (keeps s) (news s) c.run_origin-done.ensures.1 left p in
+    let walk = c.run_origin-done.ensures.0 ∙ ap (λ (n : ℕ). walked (rule_of A.w) (from A.w A.b (all s)) (within s n)) g in
     let budget : c.flag_if.result ≡ budget_after (rule_of A.w) A.b (all s) (total (ts s)) =
-    budget-end {k = c.write_run-done.result.walk} A.w A.b (all s) (total (ts s)) c.flag_if.ensures walk g (long-is s) in
+    budget-end {k = c.run_origin-done.result.walk} A.w A.b (all s) (total (ts s)) c.flag_if.ensures walk g (long-is s) in
     rw room (ap₂ done count budget, rows)

@@ -2,7 +2,6 @@ use Rattle.eventlist.specs.Rows.{rows_of}
 use Rattle.offers.specs.Waves.{triples}
 use Rattle.offers.proofs.Taming.{same-wave-normal}
 use Rattle.writing.proofs.Writes.{told_of_lem}
-use borrow.Author.Rules.{rules}
 use Rattle.writing.proofs.write_curve.Goals as goal
 
 pub returns : goal.returns

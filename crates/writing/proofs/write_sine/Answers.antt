@@ -8,7 +8,6 @@ use Rattle.writing.specs.declared.Origin.TheVariants.{Sine}
 use Rattle.writing.specs.Sines.{sine_piece}
 use Rattle.writing.proofs.Origins.{sine-total}
 use Rattle.writing.proofs.Writes.{told_of_lem, sine-gives}
-use borrow.Author.Rules.{rules}
 use Rattle.writing.proofs.write_sine.Goals as goal
 
 pub write_tested-requires : goal.write_tested-requires

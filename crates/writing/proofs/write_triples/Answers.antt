@@ -6,7 +6,6 @@ use Rattle.offers.specs.Waves.{triples}
 use Rattle.offers.specs.Sources.{Runs}
 use Rattle.offers.proofs.Taming.{runs}
 use Rattle.writing.proofs.Writes.{told_of_lem, wave-gives}
-use borrow.Author.Rules.{rules}
 use Rattle.writing.proofs.write_triples.Goals as goal
 
 pub write_tested-requires : goal.write_tested-requires
