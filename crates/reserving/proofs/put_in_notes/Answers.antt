@@ -1,6 +1,5 @@
 -- `put_in_notes`: the old entries go, and then a place is asked for, with a list for notes.
 use mathlib.Core.Path.{◌≡◌, refl, ap, ◌∙◌}
-use borrow.Author.Rules.{rules}
 use borrow.Author.Tests.{le-ltb, lt-ltb}
 use Rattle.tables.specs.declared.NoteTable.{NoteTable}
 use Rattle.tables.specs.declared.CycleTable.{CycleTable}

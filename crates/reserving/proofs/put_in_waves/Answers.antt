@@ -1,6 +1,5 @@
 -- `put_in_waves`: the old entries go, and then a place is asked for, with a wave.
 use mathlib.Core.Path.{◌≡◌, refl, ap, ◌∙◌}
-use borrow.Author.Rules.{rules}
 use borrow.Author.Tests.{le-ltb, lt-ltb}
 use Rattle.tables.specs.declared.WaveTable.{WaveTable}
 use Rattle.tables.specs.declared.CycleTable.{CycleTable}
