@@ -14,7 +14,7 @@ ghost use Rattle.drawing.specs.Write.{write_of};
 ghost use Rattle.drawing.specs.Calls.{in_order, Drawn, on_time, cc_target, pb_target, sine_for, on_sine};
 
 use budget::{Budget, budget_ok};
-use counted::{curve_ok, numbers_of};
+use counted::{curve_ok, empty, numbers_of};
 use cycles::key_of;
 use eventlist::list_ok;
 use numbers::{is_length, is_number, is_random, is_target};
@@ -263,9 +263,9 @@ pub fn write_on_time(
     ensures { Drawn (on_time track target list.now budget events.old count (length store.now)) result events.new }
 {
     let listed = numbers_of(list);
-    let numbers = listed.list;
+    let numbers = listed.unwrap_or(empty());
     let usable = track_ok(track) & budget_ok(budget) & curve_ok(numbers);
-    let code = asked(target, listed.code == 0, usable, events, count);
+    let code = asked(target, listed.is_ok(), usable, events, count);
     if code != 0 {
         return Outcome {
             code: code,

@@ -193,9 +193,7 @@ impl Layers {
             };
         }
         let mut layers = grow(self, index);
-        let mut layer = layers.items[index];
-        change(&mut layer);
-        layers.items[index] = layer;
+        change(&mut layers.items[index]);
         LayersAnswer { code: 0, layers }
     }
 

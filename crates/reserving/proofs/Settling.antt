@@ -15,7 +15,10 @@ use lib.ListN.{length}
 use Rattle.numbers.specs.Limits.{places, list_limit}
 use Rattle.numbers.specs.Ranges.{is_target}
 use Rattle.counted.specs.declared.Numbers.{Numbers}
-use Rattle.counted.specs.declared.Listed.{Listed}
+use Rattle.std.proofs.Common.{Result, Ok, Err}
+use Rattle.std.specs.Result.{is_ok, result_unwrap_or}
+use Rattle.numbers.specs.declared.refusals.Refusal.{Refusal}
+use Rattle.numbers.specs.declared.refusals.Refusal.TheVariants.{TooMany}
 use Rattle.counted.specs.Numbers.{none, numbers, numbers_of}
 use Rattle.cycles.specs.declared.Cycle.{Cycle}
 use Rattle.cycles.specs.Due.{key}
@@ -88,18 +91,18 @@ module _ (a : Track) (size : ℕ) (cs : List Cycle) (target : ℤ) where
         go true false = refl
         go false t = refl
 
-    abbrev laid : Bool → Listed
-    laid b = cond b (record { code = 3; list = none }) (record { code = 0; list = numbers v })
+    abbrev laid : Bool → Result Numbers Refusal
+    laid b = cond b (Err TooMany) (Ok (numbers v))
 
-    listed : with (eqb (numbers_of v).code 0) (numbers_of v).list ≡ with (is_short v) (numbers v)
+    listed : with (is_ok (numbers_of v)) (result_unwrap_or (numbers_of v) none) ≡ with (is_short v) (numbers v)
     listed = go (is_short v) refl
       where
-        go : (b : Bool) → is_short v ≡ b → with (eqb (numbers_of v).code 0) (numbers_of v).list ≡ with b (numbers v)
-        go true e = ap (λ (t : Bool). with (eqb (laid t).code 0) (laid t).list) (le-ltb list_limit (length v) (leb-true (length v) list_limit e))
-        go false e = ap (λ (t : Bool). with (eqb (laid t).code 0) (laid t).list) (lt-ltb list_limit (length v) (leb-false (length v) list_limit e)) ∙ unread none (numbers v)
+        go : (b : Bool) → is_short v ≡ b → with (is_ok (numbers_of v)) (result_unwrap_or (numbers_of v) none) ≡ with b (numbers v)
+        go true e = ap (λ (t : Bool). with (is_ok (laid t)) (result_unwrap_or (laid t) none)) (le-ltb list_limit (length v) (leb-true (length v) list_limit e))
+        go false e = ap (λ (t : Bool). with (is_ok (laid t)) (result_unwrap_or (laid t) none)) (lt-ltb list_limit (length v) (leb-false (length v) list_limit e)) ∙ unread none (numbers v)
 
-    pub relisted : {l : Listed} → l ≡ numbers_of v → with (eqb l.code 0) l.list ≡ with (is_short v) (numbers v)
-    relisted e = ap (λ (x : Listed). with (eqb x.code 0) x.list) e ∙ listed
+    pub relisted : {l : Result Numbers Refusal} → l ≡ numbers_of v → with (is_ok l) (result_unwrap_or l none) ≡ with (is_short v) (numbers v)
+    relisted e = ap (λ (x : Result Numbers Refusal). with (is_ok x) (result_unwrap_or x none)) e ∙ listed
 
   -- the two ends of a setter's code, by the number that was asked
   module _ {m : ℕ} (short ok : Bool) (room : Kept → Bool) (put : Kept → Kept) (e : m ≡ refusal a size cs target short ok true) where

@@ -14,7 +14,7 @@ ghost use Rattle.reserving.specs.Clearing.{answer, refusal, cleared, placed};
 ghost use Rattle.reserving.specs.Setting.{note_room, wave_room, sine_room, cycle_room, with_note, with_wave, with_sine, with_cycle, remove_reserve, set_on_note, set_on_note_wave, set_on_note_sine, set_on_cycle};
 ghost use Rattle.reserving.specs.Old.{remove_cc_on, set_cc_on_note, set_cc_on_note_wave, set_pb_on_note_wave, remove_pb_on_note_wave, alone_refusal, remove_cc_on_note, remove_cc_on_note_wave};
 
-use counted::{numbers_of, numbers_ok};
+use counted::{empty, numbers_of, numbers_ok};
 use cycles::{Cycle, PLACES, key_of};
 use drawing::{cc_target, pb_target};
 use numbers::{is_length, is_target};
@@ -162,7 +162,7 @@ pub fn set_on_note(
     ensures { result ≡ set_on_note track size cycles target list.now }
 {
     let listed = numbers_of(list);
-    let values = listed.list;
+    let values = listed.unwrap_or(empty());
     let options = track.options;
     let e = OnNoteValues {
         target: target,
@@ -170,7 +170,7 @@ pub fn set_on_note(
         cycling: repeat_of(options, target),
         values: values,
     };
-    let code = asked(track, size, cycles, target, listed.code == 0, note_ok(e));
+    let code = asked(track, size, cycles, target, listed.is_ok(), note_ok(e));
     if code != 0 {
         return Kept {
             code: code,
@@ -218,13 +218,13 @@ pub fn set_on_note_wave(
     ensures { result ≡ set_on_note_wave track size cycles target mode list.now }
 {
     let listed = numbers_of(list);
-    let values = listed.list;
+    let values = listed.unwrap_or(empty());
     let e = OnNoteWave {
         target: target,
         mode: mode,
         values: values,
     };
-    let code = asked(track, size, cycles, target, listed.code == 0, wave_ok(e));
+    let code = asked(track, size, cycles, target, listed.is_ok(), wave_ok(e));
     if code != 0 {
         return Kept {
             code: code,
@@ -330,10 +330,10 @@ pub fn set_on_cycle(
     ensures { result ≡ set_on_cycle track size cycles target length list.now }
 {
     let listed = numbers_of(list);
-    let values = listed.list;
+    let values = listed.unwrap_or(empty());
     let a = is_length(length);
     let b = numbers_ok(values);
-    let code = asked(track, size, cycles, target, listed.code == 0, a & b);
+    let code = asked(track, size, cycles, target, listed.is_ok(), a & b);
     if code != 0 {
         return Kept {
             code: code,

@@ -1,7 +1,6 @@
 -- `bend_freq`: a setting that cuts to 0 is not positive.
 use mathlib.Core.Path.{◌≡◌, sym, ap, ◌∙◌}
 use Prim.Native.Nat.{ℕ, ◌/◌, max}
-use borrow.Author.Rules.{rules}
 use borrow.Author.Tests.{ne_eqb}
 use lib.IntN.{ℤ}
 use mir.Facts.{to_z-of_z}

@@ -3,7 +3,6 @@ use mathlib.Core.Path.{ap, ◌∙◌}
 use mir.Facts.{to_z-of_z}
 use Rattle.cycles.specs.Due.{key}
 use Rattle.drawing.specs.Options.{option_of}
-use borrow.Author.Rules.{rules}
 use Rattle.drawing.proofs.option_of.Goals as goal
 
 pub returns : goal.returns

@@ -1,7 +1,6 @@
 -- `set_repeat`: the option is left as every setter leaves it; where that was not refused, the stored list is turned too.
 use mathlib.Core.Path.{◌≡◌, ap, sym, ◌∙◌}
 use Prim.Native.Nat.{ℕ}
-use borrow.Author.Rules.{rules}
 use lib.Dec.{leb}
 use lib.IntN.{ℤ}
 use mir.Facts.{to_z-of_z}

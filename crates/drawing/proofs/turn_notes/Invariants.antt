@@ -1,16 +1,10 @@
 -- `turn_notes` lays the turned lists over those of the table (the law Over), one a turn.
-use mathlib.Core.Path.{◌≡◌, refl, sym, ◌∙◌}
+use mathlib.Core.Path.{◌≡◌}
 use mathlib.Core.List.{List, map}
-use Prim.Native.Nat.{ℕ, ◌-◌, ◌≤◌, ◌+◌, ◌<◌}
-use native.Mathlib.Omega.{arith}
-use borrow.Author.Rules.{rules}
-use lib.ListN.{length, get_or, set, length-map, get_or-map}
+use Prim.Native.Nat.{ℕ, ◌-◌, ◌≤◌}
 use Rattle.laws.specs.Lists.{over}
-use Rattle.laws.proofs.Over.{over-more}
-use Rattle.laws.proofs.Reading.{length-told}
-use Rattle.numbers.specs.Limits.{places}
 use Rattle.tables.specs.declared.OnNoteValues.{OnNoteValues}
-use Rattle.drawing.specs.Options.{turned, notes_turned}
+use Rattle.drawing.specs.Options.{turned}
 use Rattle.drawing.proofs.turn_notes.Given as goal
 
 -- the first i of l by f

@@ -4,18 +4,20 @@ use mathlib.Core.Bool.{◌&&◌}
 use mathlib.Core.List.{List}
 use native.Mathlib.Omega.{arith}
 use borrow.Author.Tests.{leb-true}
-use lib.Dec.{eqb}
 use lib.IntN.{ℤ}
 use lib.ListN.{length}
 use mir.Facts.{to_z-of_z}
-use borrow.Author.Rules.{rules}
 use Rattle.laws.proofs.Tests.{both}
 use Rattle.numbers.specs.Limits.{list_limit}
-use Rattle.counted.specs.declared.Listed.{Listed}
+use Rattle.std.proofs.Common.{Result}
+use Rattle.std.specs.Result.{is_ok, result_unwrap_or}
+use Rattle.numbers.specs.declared.refusals.Refusal.{Refusal}
+use Rattle.counted.specs.declared.Numbers.{Numbers}
+use Rattle.counted.specs.Numbers.{none}
 use Rattle.counted.specs.Curves.{ok_curve}
 use Rattle.writing.proofs.Allowed.{fine}
 use Rattle.drawing.specs.Write.{write_of}
-use Rattle.drawing.specs.Calls.{Draw, draw_write, on_time}
+use Rattle.drawing.specs.Calls.{Draw, on_time}
 use Rattle.drawing.proofs.Drawn.{asked-first, asked-as, refused, well, allowed-well, ready-draw, count-well, tested}
 use Rattle.drawing.proofs.Listed.{laid-short, laid-test}
 use Rattle.drawing.proofs.write_on_time.Goals.{After-asked-code}
@@ -31,9 +33,9 @@ module _ (c : After-asked-code) where
   told : c.asked-code.result ≡ asked-first draw
   told =
       let listed = c.numbers_of-listed.ensures in
-      asked-as draw (eqb c.numbers_of-listed.result.code 0) (c.track_ok.result && c.budget_ok.result && c.curve_ok.result)
-      (rw (to_z-of_z c.ranges.target) at c.asked-code.ensures) (ap (λ (x : Listed). eqb x.code 0) listed ∙ laid-short v)
-      (λ h. both (both c.track_ok.ensures c.budget_ok.ensures) (c.curve_ok.ensures ∙ ap (λ (x : Listed). ok_curve x.list) listed ∙ laid-test v h))
+      asked-as draw c.is_ok.result (c.track_ok.result && c.budget_ok.result && c.curve_ok.result)
+      (rw (to_z-of_z c.ranges.target) at c.asked-code.ensures) (c.is_ok.ensures.value ∙ ap is_ok listed ∙ laid-short v)
+      (λ h. both (both c.track_ok.ensures c.budget_ok.ensures) ((rw (c.unwrap_or-numbers.ensures, c.empty.ensures) at c.curve_ok.ensures) ∙ ap (λ (x : Result Numbers Refusal). ok_curve (result_unwrap_or x none)) listed ∙ laid-test v h))
 
 pub returns-then-code-ne0 : goal.returns-then-code-ne0
 returns-then-code-ne0 c =

@@ -7,7 +7,6 @@ use lib.ListN.{length}
 use mir.Syntax.{w64}
 use mir.Val.{to_z}
 use mir.Facts.{to_z-of_z, to_z_pos}
-use borrow.Author.Rules.{rules}
 use Rattle.laws.proofs.Tests.{both}
 use Rattle.eventlist.specs.Rows.{rows_of}
 use Rattle.sines.specs.declared.SineType.{SineType}
@@ -18,7 +17,7 @@ use Rattle.tables.proofs.Sines.{sine-low, sine-high, sine-length, sine-times}
 use Rattle.writing.specs.Sines.{sine_pieces}
 use Rattle.writing.proofs.Writes.{told_of_lem}
 use Rattle.drawing.specs.Write.{write_of}
-use Rattle.drawing.specs.Calls.{Draw, draw_write, sine_for, on_sine}
+use Rattle.drawing.specs.Calls.{Draw, sine_for, on_sine}
 use Rattle.drawing.proofs.Drawn.{asked-first, asked-as, refused, allowed-well, ready-draw, count-well, tested}
 use Rattle.drawing.proofs.write_sine.Goals.{After-asked-refusal}
 use Rattle.drawing.proofs.write_sine.Goals as goal

@@ -1,6 +1,6 @@
 -- `asked`: each answer is the number at the tests that led to it.
 use mathlib.Core.Path.{◌≡◌, refl, sym, ap, ◌∙◌}
-use mathlib.Core.Bool.{true, false, ◌&&◌}
+use mathlib.Core.Bool.{true, ◌&&◌}
 use mir.Syntax.{w32}
 use Rattle.laws.proofs.Tests.{is_at, both}
 use Rattle.numbers.specs.Ranges.{is_target}

@@ -1,6 +1,5 @@
 -- `asked_alone`: each answer is the number at the tests that led to it.
 use mathlib.Core.Path.{◌≡◌, sym, ◌∙◌}
-use mathlib.Core.Bool.{true, false}
 use mir.Syntax.{w32}
 use Rattle.laws.proofs.Tests.{is_at}
 use Rattle.numbers.specs.Ranges.{is_target}

@@ -1,7 +1,6 @@
 -- `put_in_notes`: the old entries go, and then a place is asked for, with a list for notes.
 use native.Mathlib.Omega.{arith}
 use mathlib.Core.Path.{◌≡◌, refl, ap, ◌∙◌}
-use borrow.Author.Rules.{rules}
 use borrow.Author.Tests.{le-ltb, lt-ltb}
 use Rattle.tables.specs.Tables.{NoteTable}
 use Rattle.tables.specs.Tables.{CycleTable}

@@ -1,7 +1,6 @@
 -- `put_in_sines`: the old entries go, and then a place is asked for, with a sine.
 use native.Mathlib.Omega.{arith}
 use mathlib.Core.Path.{◌≡◌, refl, ap, ◌∙◌}
-use borrow.Author.Rules.{rules}
 use borrow.Author.Tests.{le-ltb, lt-ltb}
 use Rattle.tables.specs.Tables.{SineTable}
 use Rattle.tables.specs.Tables.{CycleTable}

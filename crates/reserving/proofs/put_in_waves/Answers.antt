@@ -1,7 +1,6 @@
 -- `put_in_waves`: the old entries go, and then a place is asked for, with a wave.
 use native.Mathlib.Omega.{arith}
 use mathlib.Core.Path.{◌≡◌, refl, ap, ◌∙◌}
-use borrow.Author.Rules.{rules}
 use borrow.Author.Tests.{le-ltb, lt-ltb}
 use Rattle.tables.specs.Tables.{WaveTable}
 use Rattle.tables.specs.Tables.{CycleTable}

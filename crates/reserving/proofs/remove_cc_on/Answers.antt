@@ -1,6 +1,5 @@
 -- `remove_cc_on`: `remove_reserve` of the number as a target.
 use mathlib.Core.Path.{ap, ◌∙◌}
-use borrow.Author.Rules.{rules}
 use lib.IntN.{ℤ}
 use mir.Syntax.{w32}
 use Rattle.reserving.specs.Setting.{remove_reserve}

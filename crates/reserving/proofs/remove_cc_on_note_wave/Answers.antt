@@ -1,7 +1,6 @@
 -- `remove_cc_on_note_wave`: the number that was asked chooses.
 use native.Mathlib.Omega.{arith}
 use mathlib.Core.Path.{◌≡◌, sym, ap, ap₂, ◌∙◌}
-use borrow.Author.Rules.{rules}
 use mir.Syntax.{w32}
 use mir.Val.{to_z, of_z}
 use Rattle.cycles.specs.Due.{key}

@@ -1,7 +1,6 @@
 -- `remove_reserve`: the number that was asked chooses.
 use mathlib.Core.Path.{◌≡◌, sym, ap, ◌∙◌}
 use mathlib.Core.Bool.{true}
-use borrow.Author.Rules.{rules}
 use mir.Facts.{to_z-of_z}
 use lib.IntN.{ℤ}
 use Rattle.cycles.specs.Due.{key}

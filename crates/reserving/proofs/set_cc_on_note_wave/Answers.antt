@@ -1,6 +1,5 @@
 -- `set_cc_on_note_wave`: `set_on_note_wave` of the number as a target.
 use mathlib.Core.Path.{ap, ◌∙◌}
-use borrow.Author.Rules.{rules}
 use lib.IntN.{ℤ}
 use mir.Syntax.{w32}
 use Rattle.reserving.specs.Setting.{set_on_note_wave}

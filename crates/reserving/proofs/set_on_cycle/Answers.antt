@@ -1,16 +1,17 @@
 -- `set_on_cycle`: both ends, with a cycle or none (Settling).
 use mathlib.Core.Path.{◌≡◌, sym, ap, ◌∙◌}
 use mathlib.Core.Bool.{Bool, true, cond, ◌&&◌, ◌||◌}
-use borrow.Author.Rules.{rules, sfits_of}
-use lib.Dec.{eqb}
+use borrow.Author.Rules.{rules}
 use mir.Syntax.{w32, w64}
 use mir.Val.{SFits}
 use mir.Facts.{to_z-of_z}
 use Rattle.laws.proofs.Tests.{both, is_at}
 use Rattle.numbers.specs.Ranges.{is_length}
 use Rattle.counted.specs.declared.Numbers.{Numbers}
-use Rattle.counted.specs.declared.Listed.{Listed}
-use Rattle.counted.specs.Numbers.{ok_numbers}
+use Rattle.std.proofs.Common.{Result}
+use Rattle.std.specs.Result.{is_ok, result_unwrap_or}
+use Rattle.numbers.specs.declared.refusals.Refusal.{Refusal}
+use Rattle.counted.specs.Numbers.{none, ok_numbers}
 use Rattle.cycles.specs.declared.Cycle.{Cycle}
 use Rattle.cycles.specs.Due.{key}
 use Rattle.reserving.specs.declared.Kept.{Kept}
@@ -22,8 +23,14 @@ use Rattle.reserving.proofs.set_on_cycle.Goals.{After-asked-code}
 use Rattle.reserving.proofs.set_on_cycle.Goals as goal
 
 module _ (c : After-asked-code) where
-  abbrev v : Listed
+  abbrev v : Result Numbers Refusal
   v = c.numbers_of-listed.result
+
+  abbrev list : Numbers
+  list = result_unwrap_or v none
+
+  list_is : c.unwrap_or-values.result ≡ list
+  list_is = rw c.empty.ensures at c.unwrap_or-values.ensures
 
   abbrev ok : Numbers → Bool
   ok x = is_length c.args.length && ok_numbers x
@@ -40,13 +47,13 @@ module _ (c : After-asked-code) where
   abbrev put : Numbers → Kept → Kept
   put x f = cond (gone x) f (with_cycle (made x) f)
 
-  code_is : c.asked-code.result ≡ refusal c.args.track c.args.size c.args.cycles c.args.target (eqb v.code 0) (ok v.list) true
+  code_is : c.asked-code.result ≡ refusal c.args.track c.args.size c.args.cycles c.args.target (is_ok v) (ok list) true
   code_is =
-      let tested : (c.is_length-a.result && c.numbers_ok-b.result) ≡ ok v.list =
-      both (is_at w32 is_length c.ranges.length.sfits c.is_length-a.ensures) c.numbers_ok-b.ensures in
-      rw (to_z-of_z c.ranges.target, tested) at c.asked-code.ensures
+      let tested : (c.is_length-a.result && c.numbers_ok-b.result) ≡ ok list =
+      both (is_at w32 is_length c.ranges.length.sfits c.is_length-a.ensures) (c.numbers_ok-b.ensures ∙ ap ok_numbers list_is) in
+      rw (to_z-of_z c.ranges.target, c.is_ok.ensures.value, tested) at c.asked-code.ensures
 
-  whole : reserving c.args.track c.args.size c.args.cycles c.args.target (eqb v.code 0) (ok v.list) (room v.list) (put v.list)
+  whole : reserving c.args.track c.args.size c.args.cycles c.args.target (is_ok v) (ok list) (room list) (put list)
       ≡ set_on_cycle c.args.track c.args.size c.args.cycles c.args.target c.args.length c.args.list.now
   unfolding set_on_cycle
   whole = relisted c.args.track c.args.size c.args.cycles c.args.target c.args.list.now ok room put c.numbers_of-listed.ensures
@@ -55,7 +62,7 @@ pub returns-then-code-ne0 : goal.returns-then-code-ne0
 returns-then-code-ne0 c =
     let a = c.args in
     let d = (goal.at.returns-then-code-ne0 c).After-asked-code in
-    turned-away a.track a.size a.cycles a.target _ _ (room d (v d).list) (put d (v d).list) (code_is d) c.if-code-ne0.true ∙ whole d
+    turned-away a.track a.size a.cycles a.target _ _ (room d (list d)) (put d (list d)) (code_is d) c.if-code-ne0.true ∙ whole d
 
 pub put_in_cycles-requires : goal.put_in_cycles-requires
 put_in_cycles-requires c = usable _ _ _ _ _ _ _ (sym (code_is (goal.at.put_in_cycles-requires c).After-asked-code) ∙ c.if-code-ne0.false)
@@ -66,6 +73,6 @@ returns c =
     let d = (goal.at.returns c).After-asked-code in
     let f : SFits w64 a.track.timepos = search rules in
     let z = to_z-of_z c.ranges.target in
-    settled a.track a.size a.cycles a.target _ _ (room d (v d).list) (put d (v d).list) (code_is d) c.if-code-ne0.false
-    (rw (z, to_z-of_z c.ranges.length, to_z-of_z f, c.key_of-k.ensures ∙ ap key z) at c.put_in_cycles.ensures)
+    settled a.track a.size a.cycles a.target _ _ (room d (list d)) (put d (list d)) (code_is d) c.if-code-ne0.false
+    (rw (z, to_z-of_z c.ranges.length, to_z-of_z f, list_is d, c.key_of-k.ensures ∙ ap key z) at c.put_in_cycles.ensures)
     ∙ whole d

@@ -1,12 +1,13 @@
 -- `set_on_note`: both ends, with a list for notes (Settling).
 use mathlib.Core.Path.{◌≡◌, sym, ap, ◌∙◌}
 use mathlib.Core.Bool.{true}
-use borrow.Author.Rules.{rules}
-use lib.Dec.{eqb}
 use lib.IntN.{ℤ}
 use mir.Facts.{to_z-of_z}
-use Rattle.counted.specs.declared.Listed.{Listed}
+use Rattle.std.proofs.Common.{Result}
+use Rattle.std.specs.Result.{is_ok, result_unwrap_or}
+use Rattle.numbers.specs.declared.refusals.Refusal.{Refusal}
 use Rattle.counted.specs.declared.Numbers.{Numbers}
+use Rattle.counted.specs.Numbers.{none}
 use Rattle.cycles.specs.Due.{key}
 use Rattle.tables.specs.declared.OnNoteValues.{OnNoteValues}
 use Rattle.tables.specs.Reservations.{ok_values}
@@ -18,8 +19,14 @@ use Rattle.reserving.proofs.set_on_note.Goals.{After-asked-code}
 use Rattle.reserving.proofs.set_on_note.Goals as goal
 
 module _ (c : After-asked-code) where
-  abbrev v : Listed
+  abbrev v : Result Numbers Refusal
   v = c.numbers_of-listed.result
+
+  abbrev list : Numbers
+  list = result_unwrap_or v none
+
+  list_is : c.unwrap_or-values.result ≡ list
+  list_is = rw c.empty.ensures at c.unwrap_or-values.ensures
 
   abbrev e : Numbers → OnNoteValues
   e x = note_of c.args.target (repeat_of c.args.track c.args.target) x
@@ -27,10 +34,10 @@ module _ (c : After-asked-code) where
   repeats : c.repeat_of.result ≡ repeat_of c.args.track c.args.target
   repeats = c.repeat_of.ensures ∙ ap (λ (z : ℤ). repeat_of c.args.track z) (to_z-of_z c.ranges.target)
 
-  code_is : c.asked-code.result ≡ refusal c.args.track c.args.size c.args.cycles c.args.target (eqb v.code 0) (ok_values (e v.list)) true
-  code_is = let t = to_z-of_z c.ranges.target in rw (t, c.note_ok.ensures, t, repeats) at c.asked-code.ensures
+  code_is : c.asked-code.result ≡ refusal c.args.track c.args.size c.args.cycles c.args.target (is_ok v) (ok_values (e list)) true
+  code_is = let t = to_z-of_z c.ranges.target in rw (t, c.note_ok.ensures, t, repeats, c.is_ok.ensures.value, list_is) at c.asked-code.ensures
 
-  whole : reserving c.args.track c.args.size c.args.cycles c.args.target (eqb v.code 0) (ok_values (e v.list)) note_room (with_note (e v.list))
+  whole : reserving c.args.track c.args.size c.args.cycles c.args.target (is_ok v) (ok_values (e list)) note_room (with_note (e list))
       ≡ set_on_note c.args.track c.args.size c.args.cycles c.args.target c.args.list.now
   unfolding set_on_note
   whole =
@@ -41,7 +48,7 @@ pub returns-then-code-ne0 : goal.returns-then-code-ne0
 returns-then-code-ne0 c =
     let a = c.args in
     let d = (goal.at.returns-then-code-ne0 c).After-asked-code in
-    turned-away a.track a.size a.cycles a.target _ _ note_room (with_note (e d (v d).list)) (code_is d) c.if-code-ne0.true ∙ whole d
+    turned-away a.track a.size a.cycles a.target _ _ note_room (with_note (e d (list d))) (code_is d) c.if-code-ne0.true ∙ whole d
 
 pub put_in_notes-requires : goal.put_in_notes-requires
 put_in_notes-requires c = usable _ _ _ _ _ _ _ (sym (code_is (goal.at.put_in_notes-requires c).After-asked-code) ∙ c.if-code-ne0.false)
@@ -51,6 +58,6 @@ returns c =
     let a = c.args in
     let d = (goal.at.returns c).After-asked-code in
     let t = to_z-of_z c.ranges.target in
-    settled a.track a.size a.cycles a.target _ _ note_room (with_note (e d (v d).list)) (code_is d) c.if-code-ne0.false
-    (rw (t, repeats d, c.key_of-k.ensures ∙ ap key t) at c.put_in_notes.ensures)
+    settled a.track a.size a.cycles a.target _ _ note_room (with_note (e d (list d))) (code_is d) c.if-code-ne0.false
+    (rw (t, repeats d, list_is d, c.key_of-k.ensures ∙ ap key t) at c.put_in_notes.ensures)
     ∙ whole d

@@ -1,7 +1,7 @@
 -- `set_on_note_sine`: both ends, with a sine (Settling).
 use mathlib.Core.Path.{◌≡◌, sym, ap, ap₂, ◌∙◌}
 use mathlib.Core.Bool.{true, ◌&&◌}
-use borrow.Author.Rules.{rules, sfits_of}
+use borrow.Author.Rules.{rules}
 use lib.Dec.{eqb}
 use mir.Syntax.{w32}
 use mir.Val.{SFits}

@@ -1,11 +1,12 @@
 -- `set_on_note_wave`: both ends, with a wave (Settling).
 use mathlib.Core.Path.{◌≡◌, sym, ap, ◌∙◌}
 use mathlib.Core.Bool.{true}
-use borrow.Author.Rules.{rules}
-use lib.Dec.{eqb}
 use mir.Facts.{to_z-of_z}
-use Rattle.counted.specs.declared.Listed.{Listed}
+use Rattle.std.proofs.Common.{Result}
+use Rattle.std.specs.Result.{is_ok, result_unwrap_or}
+use Rattle.numbers.specs.declared.refusals.Refusal.{Refusal}
 use Rattle.counted.specs.declared.Numbers.{Numbers}
+use Rattle.counted.specs.Numbers.{none}
 use Rattle.cycles.specs.Due.{key}
 use Rattle.tables.specs.declared.OnNoteWave.{OnNoteWave}
 use Rattle.tables.specs.Reservations.{ok_wave}
@@ -17,16 +18,22 @@ use Rattle.reserving.proofs.set_on_note_wave.Goals.{After-asked-code}
 use Rattle.reserving.proofs.set_on_note_wave.Goals as goal
 
 module _ (c : After-asked-code) where
-  abbrev v : Listed
+  abbrev v : Result Numbers Refusal
   v = c.numbers_of-listed.result
+
+  abbrev list : Numbers
+  list = result_unwrap_or v none
+
+  list_is : c.unwrap_or-values.result ≡ list
+  list_is = rw c.empty.ensures at c.unwrap_or-values.ensures
 
   abbrev e : Numbers → OnNoteWave
   e x = wave_of c.args.target c.args.mode x
 
-  code_is : c.asked-code.result ≡ refusal c.args.track c.args.size c.args.cycles c.args.target (eqb v.code 0) (ok_wave (e v.list)) true
-  code_is = let t = to_z-of_z c.ranges.target in rw (t, c.wave_ok.ensures, t) at c.asked-code.ensures
+  code_is : c.asked-code.result ≡ refusal c.args.track c.args.size c.args.cycles c.args.target (is_ok v) (ok_wave (e list)) true
+  code_is = let t = to_z-of_z c.ranges.target in rw (t, c.wave_ok.ensures, t, c.is_ok.ensures.value, list_is) at c.asked-code.ensures
 
-  whole : reserving c.args.track c.args.size c.args.cycles c.args.target (eqb v.code 0) (ok_wave (e v.list)) wave_room (with_wave (e v.list))
+  whole : reserving c.args.track c.args.size c.args.cycles c.args.target (is_ok v) (ok_wave (e list)) wave_room (with_wave (e list))
       ≡ set_on_note_wave c.args.track c.args.size c.args.cycles c.args.target c.args.mode c.args.list.now
   unfolding set_on_note_wave
   whole =
@@ -37,7 +44,7 @@ pub returns-then-code-ne0 : goal.returns-then-code-ne0
 returns-then-code-ne0 c =
     let a = c.args in
     let d = (goal.at.returns-then-code-ne0 c).After-asked-code in
-    turned-away a.track a.size a.cycles a.target _ _ wave_room (with_wave (e d (v d).list)) (code_is d) c.if-code-ne0.true ∙ whole d
+    turned-away a.track a.size a.cycles a.target _ _ wave_room (with_wave (e d (list d))) (code_is d) c.if-code-ne0.true ∙ whole d
 
 pub put_in_waves-requires : goal.put_in_waves-requires
 put_in_waves-requires c = usable _ _ _ _ _ _ _ (sym (code_is (goal.at.put_in_waves-requires c).After-asked-code) ∙ c.if-code-ne0.false)
@@ -47,6 +54,6 @@ returns c =
     let a = c.args in
     let d = (goal.at.returns c).After-asked-code in
     let t = to_z-of_z c.ranges.target in
-    settled a.track a.size a.cycles a.target _ _ wave_room (with_wave (e d (v d).list)) (code_is d) c.if-code-ne0.false
-    (rw (t, c.key_of-k.ensures ∙ ap key t) at c.put_in_waves.ensures)
+    settled a.track a.size a.cycles a.target _ _ wave_room (with_wave (e d (list d))) (code_is d) c.if-code-ne0.false
+    (rw (t, list_is d, c.key_of-k.ensures ∙ ap key t) at c.put_in_waves.ensures)
     ∙ whole d
