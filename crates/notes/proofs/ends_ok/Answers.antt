@@ -28,7 +28,7 @@ stored c =
     ∙ all-below (ok_event c.args.store) r c.args.count c.loop-i.i zero_event c.requires.1 (omega arith) c.requires.0
 
 pub loop-i-init : goal.loop-i-init
-loop-i-init c = (omega arith, refl)
+loop-i-init c = refl
 
 pub end_ok-requires : goal.end_ok-requires
 end_ok-requires c = near c.args.store c.read_event.result (stored c)
@@ -37,22 +37,14 @@ pub returns-then-not-end_ok : goal.returns-then-not-end_ok
 returns-then-not-end_ok c =
     failed-of ok_end c.args.count (rows_of c.args.events.now) c.loop-i.i zero_event (omega arith) c.requires.0
     (asked _ c.read_event.ensures (sym c.end_ok.ensures ∙ c.if-not-end_ok.true))
-    c.loop-i.invariant.1
-
-pub overflow_add-i : goal.overflow_add-i
-overflow_add-i c = omega arith
-
-pub loop-i-smaller : goal.loop-i-smaller
-loop-i-smaller c = omega arith
+    c.loop-i.invariant
 
 pub loop-i-preserved : goal.loop-i-preserved
-loop-i-preserved c = (
-  omega arith,
-  passed-of ok_end c.args.count (rows_of c.args.events.now) c.loop-i.i zero_event (omega arith) c.requires.0
-      (asked _ c.read_event.ensures (sym c.end_ok.ensures ∙ c.if-not-end_ok.false))
-      c.loop-i.invariant.1,
-)
+loop-i-preserved c =
+    passed-of ok_end c.args.count (rows_of c.args.events.now) c.loop-i.i zero_event (omega arith) c.requires.0
+    (asked _ c.read_event.ensures (sym c.end_ok.ensures ∙ c.if-not-end_ok.false))
+    c.loop-i.invariant
 
 pub returns : goal.returns
 returns c =
-    ended_of ok_end c.args.count (rows_of c.args.events.now) c.loop-i.i c.requires.0 (omega arith) c.loop-i.invariant.1
+    ended_of ok_end c.args.count (rows_of c.args.events.now) c.loop-i.i c.requires.0 (omega arith) c.loop-i.invariant

@@ -1,23 +1,30 @@
-use native.Mathlib.Omega.{arith}
-use mir.Syntax.{w64}
-use mir.Val.{SFits}
-use mir.Facts.{to_z-of_z}
-use lib.IntN.{◌+ℤ◌}
-use Rattle.laws.proofs.Signed.{mag-add, add_back}
+-- `off_of` meets its contract: the end's time is a sum of two numbers that are small.
+use Rattle.std.proofs.Common.{◌<◌, ◌^◌, ℤ, ◌+ℤ◌, w64, FitsSigned, to_z-of_z, arith}
+use Rattle.std.specs.Int.Signed.{mag}
+use Rattle.laws.proofs.Signed.{mag-add}
 use Rattle.notes.proofs.off_of.Goals as goal
 
-module _ (c : goal.After-struct_told-1) where
-  time-fits : SFits w64 c.args.e.time
-  time-fits = let h = c.requires.0 in omega arith
+small : (z : ℤ) → mag z < 2 ^ 60 → FitsSigned w64 z
+small z h = omega arith
 
-  len-fits : SFits w64 c.args.e.v2
-  len-fits = let h = c.requires.1 in omega arith
+sum_fits : (a b : ℤ) → mag a < 2 ^ 60 → mag b < 2 ^ 60 → FitsSigned w64 (a +ℤ b)
+sum_fits a b h k = omega (arith, mag-add a b)
 
-  sum_fits : SFits w64 (c.args.e.time +ℤ c.args.e.v2)
-  sum_fits = let h = c.requires.0 in let k = c.requires.1 in omega (arith, mag-add c.args.e.time c.args.e.v2)
-
-pub overflow_add-end : goal.overflow_add-end
-overflow_add-end c = rw (to_z-of_z (time-fits c), to_z-of_z (len-fits c)) (sum_fits c)
+pub overflow_add-result : goal.overflow_add-result
+overflow_add-result c =
+    rw (to_z-of_z (small c.args.e.time c.requires.0), to_z-of_z (small c.args.e.v2 c.requires.1)) (sum_fits c.args.e.time c.args.e.v2 c.requires.0 c.requires.1)
 
 pub returns : goal.returns
-returns c = rw (add_back (time-fits c) (len-fits c) (sum_fits c))
+returns c =
+    let e = c.args.e in
+    let g = c.struct_told-1.given in
+    rw (
+      to_z-of_z (small e.time c.requires.0),
+      to_z-of_z (small e.v2 c.requires.1),
+      to_z-of_z (sum_fits e.time e.v2 c.requires.0 c.requires.1),
+      to_z-of_z {w = w64} {z = e.channel} (record { sfits = g.1.1.0.1 }),
+      to_z-of_z {w = w64} {z = e.v1} (record { sfits = g.1.1.1.0.1 }),
+      to_z-of_z {w = w64} {z = e.v3} (record { sfits = g.1.1.1.1.1.0.1 }),
+      to_z-of_z {w = w64} {z = e.offset} (record { sfits = g.1.1.1.1.1.1.0.1 }),
+      to_z-of_z {w = w64} {z = e.len} (record { sfits = g.1.1.1.1.1.1.1.0.1 }),
+    )

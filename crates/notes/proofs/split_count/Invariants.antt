@@ -1,13 +1,9 @@
 -- `split_count` meets its contract: n is what comes of the first i events.
 use mathlib.Core.Path.{◌≡◌}
-use Prim.Native.Nat.{◌-◌, ◌≤◌}
 use lib.ListN.{length, take}
 use Rattle.eventlist.specs.Rows.{rows_of}
 use Rattle.notes.specs.Notes.{split_notes}
 use Rattle.notes.proofs.split_count.Given as goal
 
 abbrev pub invariant-loop-i : goal.invariant-loop-i
-invariant-loop-i l = (l.i ≤ l.count) × (l.n ≡ length (split_notes (take l.i (rows_of l.events))))
-
-abbrev pub decreases-loop-i : goal.decreases-loop-i
-decreases-loop-i l = l.count - l.i
+invariant-loop-i l = l.n ≡ length (split_notes (take l.i (rows_of l.events)))

@@ -279,9 +279,6 @@ pub loop-i-init : goal.loop-i-init
 loop-i-init c =
     (refl, back_start (rows_of c.args.events.now) c.args.count c.requires.count_in_bounds.0 (let h = c.requires.total_value in omega arith) c.args.total c.requires.total_value.0)
 
-pub overflow_sub-i : goal.overflow_sub-i
-overflow_sub-i c = omega arith
-
 pub read_event-e-requires : goal.read_event-e-requires
 read_event-e-requires c =
     let w = c.loop-i.invariant.1.within in
@@ -306,9 +303,6 @@ pub write_event-requires-then-is_note : goal.write_event-requires-then-is_note
 write_event-requires-then-is_note c =
     omega (arith, (note-at-4 c (is-a-note-at-3 c)).0, within-at-4 c, rows_at-at-3 c, same_rows c.write_event.new.events c.loop-i.events c.write_event.auto.events)
 
-pub loop-i-smaller-then-is_note : goal.loop-i-smaller-then-is_note
-loop-i-smaller-then-is_note c = omega arith
-
 pub loop-i-preserved-then-is_note : goal.loop-i-preserved-then-is_note
 loop-i-preserved-then-is_note c = (
   c.write_event-then-is_note.auto.events ∙ c.write_event.auto.events ∙ c.loop-i.invariant.0,
@@ -323,9 +317,6 @@ overflow_sub-n-else-is_note c = omega (arith, (plain-at-6 c (is-no-note c)).0)
 pub write_event-requires-else-is_note : goal.write_event-requires-else-is_note
 write_event-requires-else-is_note c =
     omega (arith, (plain-at-7 c (is-no-note-at-2 c)).0, within-at-7 c, rows_at-at-4 c)
-
-pub loop-i-smaller : goal.loop-i-smaller
-loop-i-smaller c = omega arith
 
 pub loop-i-preserved : goal.loop-i-preserved
 loop-i-preserved c = (

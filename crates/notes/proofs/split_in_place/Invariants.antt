@@ -9,6 +9,3 @@ use Rattle.notes.proofs.split_in_place.Given as goal
 abbrev pub invariant-loop-i : goal.invariant-loop-i
 invariant-loop-i l =
     (length l.events ≡ length l.initial.events) × Backing (rows_of l.initial.events) (rows_of l.events) l.count l.i l.n
-
-abbrev pub decreases-loop-i : goal.decreases-loop-i
-decreases-loop-i l = l.i
