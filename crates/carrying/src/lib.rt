@@ -36,43 +36,46 @@ pub struct Carried {
 }
 
 // TK: a new track.
-fn make_track(mut state: State, r: Record) -> Carried
+fn make_track(state: State, r: Record) -> Carried
     ensures { result ≡ make_track state r }
 {
     let t = Track::new(r.x, r.y);
-    let track = t.track;
-    state.track = track;
     Carried {
         code: t.code,
-        state: state,
+        state: State {
+            track: t.track,
+            ..state
+        },
     }
 }
 
 // MX: a new budget. A maximum below 0 has bits above every maximum, and is refused as one of those.
-fn make_budget(mut state: State, r: Record) -> Carried
+fn make_budget(state: State, r: Record) -> Carried
     ensures { result ≡ make_budget state r }
 {
     let maximum = text::bits_of(r.x);
     let seed = text::bits_of(r.y);
     let b = Budget::new(seed, maximum);
-    let budget = b.budget;
-    state.budget = budget;
     Carried {
         code: b.code,
-        state: state,
+        state: State {
+            budget: b.budget,
+            ..state
+        },
     }
 }
 
 // TP: where the track stands.
-fn move_to(mut state: State, r: Record) -> Carried
+fn move_to(state: State, r: Record) -> Carried
     ensures { result ≡ move_to state r }
 {
     let t = set_timepos(state.track, widened(r.x));
-    let track = t.track;
-    state.track = track;
     Carried {
         code: t.code,
-        state: state,
+        state: State {
+            track: t.track,
+            ..state
+        },
     }
 }
 
@@ -95,20 +98,21 @@ fn both_freqs(track: Track, controllers: i32, bends: i32) -> TrackAnswer
 }
 
 // FQ: both frequencies.
-fn set_freqs(mut state: State, r: Record) -> Carried
+fn set_freqs(state: State, r: Record) -> Carried
     ensures { result ≡ set_freqs state r }
 {
     let t = both_freqs(state.track, r.x, r.y);
-    let track = t.track;
-    state.track = track;
     Carried {
         code: t.code,
-        state: state,
+        state: State {
+            track: t.track,
+            ..state
+        },
     }
 }
 
 // A curve of the first n of `items`, for a target.
-fn draw_first(mut state: State, target: i32, items: &[i32], n: usize, events: &mut [i64]) -> Carried
+fn draw_first(state: State, target: i32, items: &[i32], n: usize, events: &mut [i64]) -> Carried
     requires { n ≤ length items.now }
     ensures { (result ≡ drawn_to state (draw_answer (on_time state.track target (take n items.now) state.budget events.old state.count 0)))
         × (events.new ≡ draw_left (on_time state.track target (take n items.now) state.budget events.old state.count 0)) }
@@ -122,12 +126,13 @@ fn draw_first(mut state: State, target: i32, items: &[i32], n: usize, events: &m
         state.count,
         b"",
     );
-    let budget = o.budget;
-    state.budget = budget;
-    state.count = o.count;
     Carried {
         code: o.code,
-        state: state,
+        state: State {
+            budget: o.budget,
+            count: o.count,
+            ..state
+        },
     }
 }
 
@@ -136,26 +141,24 @@ fn draw(state: State, r: Record, events: &mut [i64]) -> Carried
     requires { r.list.count ≤ list_limit }
     ensures { (result ≡ drawn_to state (draw_answer (curve_of state r events.old))) × (events.new ≡ draw_left (curve_of state r events.old)) }
 {
-    let target = r.x;
-    let list = r.list;
-    let items = list.items;
-    draw_first(state, target, &items, list.count, events)
+    draw_first(state, r.x, &r.list.items, r.list.count, events)
 }
 
 // A cycle of the first n of `items`, for a target.
-fn keep_first(mut state: State, target: i32, len: i32, items: &[i32], n: usize) -> Carried
+fn keep_first(state: State, target: i32, len: i32, items: &[i32], n: usize) -> Carried
     requires { n ≤ length items.now }
     ensures { result ≡ kept_to state (set_on_cycle state.track 16 state.cycles target len (take n items.now)) }
 {
-    let cycles = state.cycles;
-    let k = set_on_cycle(state.track, PLACES, cycles, target, len, &items[..n]);
-    let track = k.track;
-    let after = k.cycles;
-    state.track = track;
-    state.cycles = after;
+    let k = set_on_cycle(state.track, PLACES, state.cycles, target, len, &items[..n]);
+    // An array goes from one struct to another by a variable: the check covers no other way.
+    let cycles = k.cycles;
     Carried {
         code: k.code,
-        state: state,
+        state: State {
+            track: k.track,
+            cycles,
+            ..state
+        },
     }
 }
 
@@ -164,47 +167,47 @@ fn set_cycle(state: State, r: Record) -> Carried
     requires { r.list.count ≤ list_limit }
     ensures { result ≡ set_cycle state r }
 {
-    let list = r.list;
-    let items = list.items;
-    keep_first(state, r.x, r.y, &items, list.count)
+    keep_first(state, r.x, r.y, &r.list.items, r.list.count)
 }
 
 // RC: the cycles' writes up to a time.
-fn turn(mut state: State, r: Record, events: &mut [i64]) -> Carried
+fn turn(state: State, r: Record, events: &mut [i64]) -> Carried
     ensures { (result ≡ cycled_to state (turn_answer state r events.old)) × (events.new ≡ turn_list state r events.old) }
 {
-    let cycles = state.cycles;
     let until = widened(r.x);
     let k = write_cc_on_cycle(
         state.track,
         PLACES,
-        cycles,
+        state.cycles,
         until,
         state.budget,
         events,
         state.count,
     );
-    let budget = k.budget;
-    let after = k.cycles;
-    state.cycles = after;
-    state.budget = budget;
-    state.count = k.count;
+    let cycles = k.cycles;
     Carried {
         code: k.code,
-        state: state,
+        state: State {
+            cycles,
+            budget: k.budget,
+            count: k.count,
+            ..state
+        },
     }
 }
 
 // PF: the plain cut.
-fn cut(mut state: State, r: Record, events: &mut [i64]) -> Carried
+fn cut(state: State, r: Record, events: &mut [i64]) -> Carried
     ensures { (result ≡ cut_to state (cut_taken 0 events.old state.count (plain r.x))) × (events.new ≡ cut_left 0 events.old state.count (plain r.x)) }
 {
     let at = widened(r.x);
     let t = play_from(events, state.count, at, b"");
-    state.count = t.count;
     Carried {
         code: t.code,
-        state: state,
+        state: State {
+            count: t.count,
+            ..state
+        },
     }
 }
 
@@ -213,8 +216,7 @@ pub fn carry_out(state: State, r: Record, events: &mut [i64]) -> Carried
     requires { r.list.count ≤ list_limit }
     ensures { (result ≡ (carried state r events.old).done) × (events.new ≡ (carried state r events.old).events) }
 {
-    let m = r.mark;
-    match m {
+    match r.mark {
         Mark::Track => make_track(state, r),
         Mark::Budget => make_budget(state, r),
         Mark::Time => move_to(state, r),
@@ -223,9 +225,6 @@ pub fn carry_out(state: State, r: Record, events: &mut [i64]) -> Carried
         Mark::Cycle => set_cycle(state, r),
         Mark::Turn => turn(state, r, events),
         Mark::Cut => cut(state, r, events),
-        Mark::Unknown => Carried {
-            code: 8,
-            state: state,
-        },
+        Mark::Unknown => Carried { code: 8, state },
     }
 }

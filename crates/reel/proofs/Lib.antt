@@ -2,3 +2,4 @@ pub mod Listing
 pub mod Reading
 pub mod Reaching
 pub mod Longer
+pub mod Asking

@@ -49,63 +49,42 @@ pub fn mark_of(letters: u32) -> Mark
     }
 }
 
-// How many numbers stand behind the mark, before a list.
-pub fn width_of(mark: Mark) -> usize
-    ensures value { result ≡ width_of mark }
-    ensures upper_bound { result ≤ 3 }
-{
-    match mark {
-        Mark::Track => 2,
-        Mark::Budget => 2,
-        Mark::Time => 1,
-        Mark::Freqs => 2,
-        Mark::Curve => 2,
-        Mark::Cycle => 3,
-        Mark::Turn => 1,
-        Mark::Cut => 1,
-        Mark::Unknown => 0,
+impl Mark {
+    // How many numbers stand behind the mark, before a list.
+    pub fn width(self) -> usize
+        ensures value { result ≡ width_of self }
+        ensures upper_bound { result ≤ 3 }
+    {
+        match self {
+            Mark::Cycle => 3,
+            Mark::Track | Mark::Budget | Mark::Freqs | Mark::Curve => 2,
+            Mark::Time | Mark::Turn | Mark::Cut => 1,
+            Mark::Unknown => 0,
+        }
     }
-}
 
-// Whether a list follows, counted by the last of those numbers.
-pub fn has_list(mark: Mark) -> bool
-    ensures { result ≡ has_list mark }
-{
-    match mark {
-        Mark::Track => false,
-        Mark::Budget => false,
-        Mark::Time => false,
-        Mark::Freqs => false,
-        Mark::Curve => true,
-        Mark::Cycle => true,
-        Mark::Turn => false,
-        Mark::Cut => false,
-        Mark::Unknown => false,
+    // Whether a list follows, counted by the last of those numbers.
+    pub fn has_list(self) -> bool
+        ensures { result ≡ has_list self }
+    {
+        matches!(self, Mark::Curve | Mark::Cycle)
     }
-}
 
-// How many of TK and MX stand before the mark.
-fn order_of(mark: Mark) -> u32
-    ensures { result ≡ order_of mark }
-{
-    match mark {
-        Mark::Track => 0,
-        Mark::Budget => 1,
-        Mark::Time => 2,
-        Mark::Freqs => 2,
-        Mark::Curve => 2,
-        Mark::Cycle => 2,
-        Mark::Turn => 2,
-        Mark::Cut => 2,
-        Mark::Unknown => 2,
+    // How many of TK and MX stand before the mark.
+    fn order(self) -> u32
+        ensures { result ≡ order_of self }
+    {
+        match self {
+            Mark::Track => 0,
+            Mark::Budget => 1,
+            _ => 2,
+        }
     }
-}
 
-// Whether the mark is known and its turn has come, `due` of TK and MX being read.
-pub fn is_due(mark: Mark, due: u32) -> bool
-    ensures { result ≡ is_due due mark }
-{
-    let w = width_of(mark);
-    let o = order_of(mark);
-    (0 < w) & (o == due)
+    // Whether the mark is known and its turn has come, `due` of TK and MX being read.
+    pub fn is_due(self, due: u32) -> bool
+        ensures { result ≡ is_due due self }
+    {
+        (0 < self.width()) & (self.order() == due)
+    }
 }

@@ -9,19 +9,12 @@ ghost use Rattle.reel.specs.Records.{is_count};
 use counted::{LIST_LIMIT, Numbers};
 use text::number_at;
 
-fn wide(b: u8) -> u32
-    ensures value { result ≡ b }
-    ensures upper_bound { result < 256 }
-{
-    b as u32
-}
-
 // The two letters at `at`.
 pub fn letters_at(tape: &[u8], at: usize) -> u32
     requires { at + 2 ≤ length tape.now }
     ensures { result ≡ letters_at tape.now at }
 {
-    wide(tape[at]) + 256 * wide(tape[at + 1])
+    u32::from(u16::from_le_bytes([tape[at], tape[at + 1]]))
 }
 
 // Whether a list may have n numbers.
@@ -36,10 +29,7 @@ pub fn is_count(n: i32) -> bool
 pub fn count_of(n: i32) -> usize
     ensures { result ≡ cut n }
 {
-    if n < 0 {
-        return 0;
-    }
-    n as usize
+    usize::try_from(n).unwrap_or(0)
 }
 
 // n numbers from `at` on.
@@ -48,11 +38,8 @@ pub fn numbers_at(tape: &[u8], at: usize, n: usize) -> Numbers
     ensures { result ≡ numbers (numbers_at tape.now at n) }
 {
     let mut list = counted::empty();
-    let mut i: usize = 0;
-    while i < n {
-        let z = number_at(tape, at + 4 * i);
-        list.items[i] = z;
-        i += 1;
+    for i in 0..n {
+        list.items[i] = number_at(tape, at + 4 * i);
     }
     list.count = n;
     list

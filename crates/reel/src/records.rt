@@ -1,12 +1,14 @@
 // A record of a tape, read whole or refused.
 ghost use Rattle.std.specs.Prelude.{◌≡◌, ◌+◌, ◌*◌, ◌≤◌, ◌<◌, length};
 ghost use Rattle.numbers.specs.Limits.{list_limit};
+ghost use Rattle.numbers.specs.Refusals.{told};
 ghost use Rattle.reel.specs.Marks.{width_of};
 ghost use Rattle.reel.specs.Records.{behind, mark_at, second_at, last_at, list_fault, fault, count_at, sound, unsound, record_at};
 
-use crate::marks::{Mark, has_list, is_due, mark_of, width_of};
+use crate::marks::{Mark, mark_of};
 use crate::numerals::{count_of, is_count, letters_at, numbers_at};
 use counted::Numbers;
+use numbers::{Refusal, ask};
 use text::number_at;
 
 // `x` and `y` are the first two numbers, `list` those of the list, `next` the place of the next record. What a mark does not
@@ -25,18 +27,15 @@ pub struct Record {
 fn mark_at(tape: &[u8], at: usize) -> Mark
     ensures { result ≡ mark_at tape.now at }
 {
-    if tape.len() < 2 {
-        return Mark::Unknown;
-    }
-    if tape.len() - 2 < at {
+    if tape.len() < 2 || tape.len() - 2 < at {
         return Mark::Unknown;
     }
     let m = mark_of(letters_at(tape, at));
-    let w = width_of(m);
-    if tape.len() - 2 - at < 4 * w {
-        return Mark::Unknown;
+    if tape.len() - 2 - at < 4 * m.width() {
+        Mark::Unknown
+    } else {
+        m
     }
-    m
 }
 
 // The second number, where there is one.
@@ -44,11 +43,11 @@ fn second_at(tape: &[u8], at: usize, mark: Mark) -> i32
     requires { behind at mark ≤ length tape.now }
     ensures { result ≡ second_at tape.now at mark }
 {
-    let w = width_of(mark);
-    if 1 < w {
-        return number_at(tape, at + 6);
+    if 1 < mark.width() {
+        number_at(tape, at + 6)
+    } else {
+        0
     }
-    0
 }
 
 // The last number before a list.
@@ -56,43 +55,32 @@ fn last_at(tape: &[u8], at: usize, mark: Mark) -> i32
     requires { (0 < width_of mark) × (behind at mark ≤ length tape.now) }
     ensures { result ≡ last_at tape.now at mark }
 {
-    let w = width_of(mark);
-    number_at(tape, at + 2 + 4 * (w - 1))
+    number_at(tape, at + 2 + 4 * (mark.width() - 1))
 }
 
 // Why a list of n numbers from `at` on is refused: 2 for its target, 3 for n, 8 where it is short.
-fn list_fault(tape: &[u8], at: usize, target: i32, n: i32) -> u32
+fn list_fault(tape: &[u8], at: usize, target: i32, n: i32) -> Result<(), Refusal>
     requires { at ≤ length tape.now }
-    ensures { result ≡ list_fault tape.now at target n }
+    ensures { told result ≡ list_fault tape.now at target n }
 {
-    if !numbers::is_target(target) {
-        return 2;
-    }
-    if !is_count(n) {
-        return 3;
-    }
-    let k = count_of(n);
-    if tape.len() - at < 4 * k {
-        return 8;
-    }
-    0
+    ask(numbers::is_target(target), Refusal::NoTarget)?;
+    ask(is_count(n), Refusal::TooMany)?;
+    ask(4 * count_of(n) <= tape.len() - at, Refusal::TapeFault)
 }
 
-// Why the record of this mark is refused, or 0.
-fn fault_at(tape: &[u8], at: usize, mark: Mark, due: u32) -> u32
+// Why the record of this mark is refused, if it is.
+fn fault_at(tape: &[u8], at: usize, mark: Mark, due: u32) -> Result<(), Refusal>
     requires { mark ≡ mark_at tape.now at }
-    ensures { result ≡ fault tape.now at due }
+    ensures { told result ≡ fault tape.now at due }
 {
-    if !is_due(mark, due) {
-        return 8;
+    ask(mark.is_due(due), Refusal::TapeFault)?;
+    if mark.has_list() {
+        let target = number_at(tape, at + 2);
+        let n = last_at(tape, at, mark);
+        list_fault(tape, at + 2 + 4 * mark.width(), target, n)
+    } else {
+        Ok(())
     }
-    if !has_list(mark) {
-        return 0;
-    }
-    let p = at + 2 + 4 * width_of(mark);
-    let target = number_at(tape, at + 2);
-    let n = last_at(tape, at, mark);
-    list_fault(tape, p, target, n)
 }
 
 // How many numbers its list has.
@@ -100,11 +88,11 @@ fn count_at(tape: &[u8], at: usize, mark: Mark) -> usize
     requires { (0 < width_of mark) × (behind at mark ≤ length tape.now) }
     ensures { result ≡ count_at tape.now at mark }
 {
-    if !has_list(mark) {
-        return 0;
+    if mark.has_list() {
+        count_of(last_at(tape, at, mark))
+    } else {
+        0
     }
-    let n = last_at(tape, at, mark);
-    count_of(n)
 }
 
 // A record of which everything is there.
@@ -112,16 +100,13 @@ fn sound_at(tape: &[u8], at: usize, mark: Mark, n: usize) -> Record
     requires { (0 < width_of mark) × (n ≤ list_limit) × (behind at mark + 4 * n ≤ length tape.now) }
     ensures { result ≡ sound tape.now at mark n }
 {
-    let p = at + 2 + 4 * width_of(mark);
-    let x = number_at(tape, at + 2);
-    let y = second_at(tape, at, mark);
-    let list = numbers_at(tape, p, n);
+    let p = at + 2 + 4 * mark.width();
     Record {
         code: 0,
-        mark: mark,
-        x: x,
-        y: y,
-        list: list,
+        mark,
+        x: number_at(tape, at + 2),
+        y: second_at(tape, at, mark),
+        list: numbers_at(tape, p, n),
         next: p + 4 * n,
     }
 }
@@ -129,13 +114,12 @@ fn sound_at(tape: &[u8], at: usize, mark: Mark, n: usize) -> Record
 fn unsound_at(code: u32, at: usize) -> Record
     ensures { result ≡ unsound code at }
 {
-    let list = counted::empty();
     Record {
-        code: code,
+        code,
         mark: Mark::Unknown,
         x: 0,
         y: 0,
-        list: list,
+        list: counted::empty(),
         next: at,
     }
 }
@@ -146,10 +130,8 @@ pub fn record_at(tape: &[u8], at: usize, due: u32) -> Record
     ensures { result ≡ record_at tape.now at due }
 {
     let m = mark_at(tape, at);
-    let code = fault_at(tape, at, m, due);
-    if code != 0 {
-        return unsound_at(code, at);
+    match fault_at(tape, at, m, due) {
+        Ok(()) => sound_at(tape, at, m, count_at(tape, at, m)),
+        Err(refusal) => unsound_at(refusal.number(), at),
     }
-    let n = count_at(tape, at, m);
-    sound_at(tape, at, m, n)
 }

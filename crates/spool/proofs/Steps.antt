@@ -2,14 +2,14 @@
 --     parts, joined                     a pass by its two parts
 --     record-few                        a record that was read has no more numbers than a list may have
 --     unread, refused-call, done-call   a step's three ways out
---     blank-by, begun-by, past_by, missing, complete   a run, put together
+--     blank-by                          a state, put together
 --     moves                             a step gets on, and counts at most one record
 use mathlib.Core.Path.{◌≡◌, refl, ap, ◌∙◌}
-use mathlib.Core.Bool.{Bool, true, false, cond, ◌&&◌}
+use mathlib.Core.Bool.{Bool, true, false, cond}
 use mathlib.Core.List.{List}
 use Prim.Native.Nat.{ℕ, ◌+◌, ◌≤◌, ◌<◌}
 use native.Mathlib.Omega.{arith}
-use lib.Dec.{eqb, ltb}
+use lib.Dec.{eqb}
 use lib.IntN.{ℤ, pos}
 use lib.ListN.{length}
 use borrow.Author.Tests.{eq-eqb, ne_eqb, eqb-true}
@@ -24,15 +24,13 @@ use Rattle.state.specs.Track.{new_track, no_cycles}
 use Rattle.state.specs.Calls.{new_of, answered}
 use Rattle.reel.specs.declared.records.Record.{Record}
 use Rattle.reel.specs.Records.{behind, mark_at, count_at, record_by, record_at}
-use Rattle.reel.specs.Places.{more_due}
 use Rattle.reel.proofs.Listing.{length-numbers}
 use Rattle.reel.proofs.Reading.{fault-none}
 use Rattle.reel.proofs.Reaching.{read_none, record-next}
-use Rattle.carrying.specs.declared.State.{State}
 use Rattle.carrying.specs.declared.Carried.{Carried}
 use Rattle.carrying.specs.Carry.{Left, left, carried, state_of}
 use Rattle.spool.specs.declared.Run.{Run}
-use Rattle.spool.specs.Play.{blank_state, begun, refused, past, Pass, pass, after_call, after_record, step_by, step_of, ended}
+use Rattle.spool.specs.Play.{blank_state, refused, past, Pass, pass, after_call, after_record, step_by, step_of}
 
 pub parts : {a : Run} {l : List ℤ} {p : Pass} → pass a l ≡ p → (a ≡ p.run) × (l ≡ p.events)
 parts h = (ap (λ (q : Pass). q.run) h, ap (λ (q : Pass). q.events) h)
@@ -93,18 +91,6 @@ no_bytes = refl
 pub blank-by : {t : TrackAnswer} {c : CycleTable} {b : BudgetAnswer} → t ≡ new_of (pos 0) (pos 0) → c ≡ no_cycles → b ≡ new_budget 0 0 → state_of t.track c.items b.budget 0 ≡ blank_state
 unfolding blank_state
 blank-by p q r = rw (p, q, r, no-track, no_bytes)
-
-pub begun-by : {s : State} → s ≡ blank_state → record { code = 0; at = 0; index = 0; due = 0; state = s } ≡ begun
-begun-by e = rw e
-
-pub past_by : (a : Run) (next : ℕ) (s : State) {d : ℕ} → d ≡ more_due a.due → record { code = 0; at = next; index = a.index + 1; due = d; state = s } ≡ past a next s
-past_by a next s e = rw e
-
-pub missing : (end : ℕ) (a : Run) → (eqb a.code 0 && ltb a.due 2) ≡ true → refused a 8 end ≡ ended end a
-missing end a h = rw h
-
-pub complete : (end : ℕ) (a : Run) → (eqb a.code 0 && ltb a.due 2) ≡ false → a ≡ ended end a
-complete end a h = rw h
 
 -- what holds of both of a choice holds of the choice
 pub of-both : (P : Pass → Type 0) (b : Bool) (x y : Pass) → (b ≡ true → P x) → P y → P (cond b x y)

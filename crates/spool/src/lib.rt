@@ -31,16 +31,13 @@ pub struct Run {
 fn blank_state() -> State
     ensures { result ≡ blank_state }
 {
-    let none = Track::new(0, 0);
+    // An array goes from one struct to another by a variable: the check covers no other way.
     let table = no_cycles();
-    let spent = Budget::new(0, 0);
-    let budget = spent.budget;
-    let track = none.track;
     let cycles = table.items;
     State {
-        track: track,
-        cycles: cycles,
-        budget: budget,
+        track: Track::new(0, 0).track,
+        cycles,
+        budget: Budget::new(0, 0).budget,
         count: 0,
     }
 }
@@ -48,32 +45,30 @@ fn blank_state() -> State
 fn begin() -> Run
     ensures { result ≡ begun }
 {
-    let state = blank_state();
     Run {
         code: 0,
         at: 0,
         index: 0,
         due: 0,
-        state: state,
+        state: blank_state(),
     }
 }
 
 // The run, over.
-fn refuse(mut run: Run, code: u32, end: usize) -> Run
+fn refuse(run: Run, code: u32, end: usize) -> Run
     ensures { result ≡ refused run code end }
 {
-    run.code = code;
-    run.at = end;
-    run
+    Run {
+        code,
+        at: end,
+        ..run
+    }
 }
 
 fn more_due(due: u32) -> u32
     ensures { result ≡ more_due due }
 {
-    if due < 2 {
-        return due + 1;
-    }
-    due
+    if due < 2 { due + 1 } else { due }
 }
 
 // The run past a record.
@@ -81,13 +76,12 @@ fn pass_on(run: Run, next: usize, state: State) -> Run
     requires { run.index < tape_limit }
     ensures { result ≡ past run next state }
 {
-    let due = more_due(run.due);
     Run {
         code: 0,
         at: next,
         index: run.index + 1,
-        due: due,
-        state: state,
+        due: more_due(run.due),
+        state,
     }
 }
 
@@ -112,9 +106,10 @@ fn end(run: Run, end: usize) -> Run
     ensures { result ≡ ended end run }
 {
     if (run.code == 0) & (run.due < 2) {
-        return refuse(run, 8, end);
+        refuse(run, 8, end)
+    } else {
+        run
     }
-    run
 }
 
 // Plays a whole tape on an empty list: `code` is 0, or the number that refused record `index`. A tape that is longer than
@@ -139,13 +134,11 @@ pub fn print_tape(tape: &[u8], events: &mut [i64], page: &mut [u8]) -> usize
     ensures events_after { events.new ≡ (play_of tape.now events.old).events }
 {
     let run = play(tape, events);
-    let state = run.state;
-    let budget = state.budget;
     let ending = Ending {
         code: run.code,
         index: run.index,
-        count: state.count,
-        budget: budget,
+        count: run.state.count,
+        budget: run.state.budget,
     };
     put_end(page, ending, events)
 }

@@ -28,10 +28,10 @@ fn blank_page() -> [u8; PAGE]
 }
 
 fn write_front(to: Stdout, page: &[u8], n: usize) -> Result<()> {
-    if n <= page.len() {
-        return to.write_all(&page[..n]);
+    match page.get(..n) {
+        Some(front) => to.write_all(front),
+        None => Ok(()),
     }
-    Ok(())
 }
 
 // Plays the tape that the first n bytes of `space` are.
@@ -42,11 +42,13 @@ fn print_first(
     events: &mut [i64],
     page: &mut [u8],
 ) -> Result<()> {
-    if n <= space.len() {
-        let long = spool::print_tape(&space[..n], events, page);
-        return write_front(to, page, long);
+    match space.get(..n) {
+        Some(tape) => {
+            let long = spool::print_tape(tape, events, page);
+            write_front(to, page, long)
+        }
+        None => Ok(()),
     }
-    Ok(())
 }
 
 fn main(rt: HostRuntime) -> Result<()> {

@@ -1,8 +1,5 @@
--- `numbers_at` lays the numbers over the zeros of an empty list, one a turn (the law Over). The measure is what is left of them.
-use mathlib.Core.Path.{◌≡◌}
-use mathlib.Core.List.{List}
-use Prim.Native.Nat.{◌-◌, ◌≤◌}
-use lib.IntN.{ℤ}
+-- `numbers_at` lays the numbers over the zeros of an empty list, one a turn (the law Over).
+use Rattle.std.proofs.Common.{◌≡◌, List, ℤ}
 use Rattle.laws.specs.Lists.{over}
 use Rattle.counted.specs.declared.Numbers.{Numbers}
 use Rattle.counted.specs.Numbers.{zeros}
@@ -13,7 +10,4 @@ abbrev pub uncounted : List ℤ → Numbers
 uncounted l = record { count = 0; items = l }
 
 abbrev pub invariant-loop-i : goal.invariant-loop-i
-invariant-loop-i l = (l.i ≤ l.n) × (l.list ≡ uncounted (over zeros (numbers_at l.tape l.at l.n) l.i))
-
-abbrev pub decreases-loop-i : goal.decreases-loop-i
-decreases-loop-i l = l.n - l.i
+invariant-loop-i l = l.list ≡ uncounted (over zeros (numbers_at l.tape l.at l.n) l.i)

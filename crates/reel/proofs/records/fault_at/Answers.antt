@@ -1,90 +1,76 @@
 -- `fault_at`: the tests, in the definition's order; a mark whose turn it is has all its numbers.
-use mathlib.Core.Path.{◌≡◌, ap, ◌∙◌, sym}
-use mathlib.Core.Bool.{true}
-use Prim.Native.Nat.{ℕ, ◌+◌, ◌*◌, ◌≤◌, ◌<◌}
-use native.Mathlib.Omega.{arith}
-use lib.ListN.{length}
-use mir.Syntax.{w32}
-use mir.Facts.{to_z-of_z}
+use Rattle.std.proofs.Common.{ℕ, List, ◌≡◌, ◌+◌, ◌*◌, ◌≤◌, ◌<◌, ap, ◌∙◌, sym, arith, true, length, w32, to_z-of_z}
+use Rattle.std.proofs.lemmas.Result.{err_from_is_err_and}
 use borrow.Author.Rules.{sfits_of}
-use Rattle.reel.specs.Marks.{is_due, has_list, width_of}
-use Rattle.reel.specs.Records.{behind}
+use Rattle.reel.specs.Marks.{is_due, width_of}
+use Rattle.reel.specs.declared.marks.Mark.{Mark}
+use Rattle.reel.specs.Records.{behind, mark_at}
+use Rattle.reel.proofs.Asking.{asked-no, asked-yes}
 use Rattle.reel.proofs.Reading.{due-some, room_of, not-due, no-list, asked-list}
 use Rattle.reel.proofs.records.fault_at.Goals as goal
 
-module _ (c : goal.Else-not-has_list) where
-  due : is_due c.args.due c.args.mark ≡ true
-  due = sym c.is_due.ensures ∙ c.if-not-is_due.false
+-- of a mark whose turn it is
+module _ (s : List ℕ) (p n : ℕ) (m : Mark) (is : m ≡ mark_at s p) (d : is_due n m ≡ true) where
+  some : 0 < width_of m
+  some = due-some n m d
 
-  room : behind c.args.at c.args.mark ≤ length c.args.tape.now
-  room = room_of c.args.tape.now c.args.at c.args.due c.args.mark c.requires due
+  room : behind p m ≤ length s
+  room = room_of s p n m is d
 
-module _ (c : goal.After-width_of) where
-  due-at-2 : is_due c.args.due c.args.mark ≡ true
-  due-at-2 = sym c.is_due.ensures ∙ c.if-not-is_due.false
-
-  some-at-2 : 0 < width_of c.args.mark
-  some-at-2 = due-some c.args.due c.args.mark due-at-2
-
-  room-at-2 : behind c.args.at c.args.mark ≤ length c.args.tape.now
-  room-at-2 = room_of c.args.tape.now c.args.at c.args.due c.args.mark c.requires due-at-2
-
-module _ (c : goal.After-number_at-target) where
-  due-at-3 : is_due c.args.due c.args.mark ≡ true
-  due-at-3 = sym c.is_due.ensures ∙ c.if-not-is_due.false
-
-  some-at-3 : 0 < width_of c.args.mark
-  some-at-3 = due-some c.args.due c.args.mark due-at-3
-
-  room-at-3 : behind c.args.at c.args.mark ≤ length c.args.tape.now
-  room-at-3 = room_of c.args.tape.now c.args.at c.args.due c.args.mark c.requires due-at-3
-
-module _ (c : goal.After-last_at-n) where
-  due-at-4 : is_due c.args.due c.args.mark ≡ true
-  due-at-4 = sym c.is_due.ensures ∙ c.if-not-is_due.false
-
-  room-at-4 : behind c.args.at c.args.mark ≤ length c.args.tape.now
-  room-at-4 = room_of c.args.tape.now c.args.at c.args.due c.args.mark c.requires due-at-4
-
-module _ (c : goal.After-list_fault) where
-  due-at-5 : is_due c.args.due c.args.mark ≡ true
-  due-at-5 = sym c.is_due.ensures ∙ c.if-not-is_due.false
-
-  listed-at-5 : has_list c.args.mark ≡ true
-  listed-at-5 = sym c.has_list.ensures ∙ c.if-not-has_list.false
-
-pub returns-then-not-is_due : goal.returns-then-not-is_due
-returns-then-not-is_due c =
-    not-due _ c.args.tape.now c.args.at c.args.due c.args.mark c.requires (sym c.is_due.ensures ∙ c.if-not-is_due.true)
-
-pub returns-then-not-has_list : goal.returns-then-not-has_list
-returns-then-not-has_list c =
-    no-list _ c.args.tape.now c.args.at c.args.due c.args.mark c.requires (sym c.is_due.ensures ∙ c.if-not-is_due.false)
-    (sym c.has_list.ensures ∙ c.if-not-has_list.true)
-
-pub overflow_add-p : goal.overflow_add-p
-overflow_add-p c = omega (arith, room c)
-
-pub overflow_add-p-2 : goal.overflow_add-p-2
-overflow_add-p-2 c = omega (arith, room-at-2 c, c.width_of.ensures.value)
+pub returns-in_err-ask : goal.returns-in_err-ask
+returns-in_err-ask c =
+    let p = err_from_is_err_and c.from_residual.result c.from_residual.ensures.1 in
+    let n = asked-no c.is_due.result c.in_err-ask.ensures in
+    rw (p.1, p.2, n.1) (not-due _ c.args.tape.now c.args.at c.args.due c.args.mark c.requires (sym c.is_due.ensures ∙ n.0))
 
 pub overflow_add-at : goal.overflow_add-at
-overflow_add-at c = omega (arith, room-at-2 c)
+overflow_add-at c =
+    let a = c.args in
+    let d = sym c.is_due.ensures ∙ asked-yes c.is_due.result _ c.in_ok-ask.ensures in
+    omega (arith, room a.tape.now a.at a.due a.mark c.requires d)
 
 pub number_at-target-requires : goal.number_at-target-requires
-number_at-target-requires c = omega (arith, room-at-2 c, some-at-2 c)
+number_at-target-requires c =
+    let a = c.args in
+    let d = sym c.is_due.ensures ∙ asked-yes c.is_due.result _ c.in_ok-ask.ensures in
+    omega (arith, some a.tape.now a.at a.due a.mark c.requires d, room a.tape.now a.at a.due a.mark c.requires d)
 
 pub last_at-n-requires : goal.last_at-n-requires
-last_at-n-requires c = (some-at-3 c, room-at-3 c)
+last_at-n-requires c =
+    let a = c.args in
+    let d = sym c.is_due.ensures ∙ asked-yes c.is_due.result _ c.in_ok-ask.ensures in
+    (some a.tape.now a.at a.due a.mark c.requires d, room a.tape.now a.at a.due a.mark c.requires d)
+
+pub overflow_add-at-then-has_list : goal.overflow_add-at-then-has_list
+overflow_add-at-then-has_list c =
+    let a = c.args in
+    let d = sym c.is_due.ensures ∙ asked-yes c.is_due.result _ c.in_ok-ask.ensures in
+    omega (arith, room a.tape.now a.at a.due a.mark c.requires d)
+
+pub overflow_add-at-then-has_list-2 : goal.overflow_add-at-then-has_list-2
+overflow_add-at-then-has_list-2 c =
+    let a = c.args in
+    let d = sym c.is_due.ensures ∙ asked-yes c.is_due.result _ c.in_ok-ask.ensures in
+    omega (arith, room a.tape.now a.at a.due a.mark c.requires d, c.width.ensures.value)
 
 pub list_fault-requires : goal.list_fault-requires
-list_fault-requires c = omega (arith, room-at-4 c, c.width_of.ensures.value)
+list_fault-requires c =
+    let a = c.args in
+    let d = sym c.is_due.ensures ∙ asked-yes c.is_due.result _ c.in_ok-ask.ensures in
+    omega (arith, room a.tape.now a.at a.due a.mark c.requires d, c.width.ensures.value)
 
-pub returns : goal.returns
-returns c =
-    let w = c.width_of.ensures.value in
+pub returns-then-has_list : goal.returns-then-has_list
+returns-then-has_list c =
+    let a = c.args in
+    let d = sym c.is_due.ensures ∙ asked-yes c.is_due.result _ c.in_ok-ask.ensures in
     c.list_fault.ensures
-    ∙ asked-list _ c.args.tape.now c.args.at c.args.due c.args.mark c.requires (due-at-5 c) (listed-at-5 c)
-    (ap (λ (n : ℕ). c.args.at + 2 + 4 * n) w)
+    ∙ asked-list _ a.tape.now a.at a.due a.mark c.requires d (sym c.has_list.ensures ∙ c.if-has_list.true)
+    (ap (λ (n : ℕ). a.at + 2 + 4 * n) c.width.ensures.value)
     (to_z-of_z {w = w32} (sfits_of c.number_at-target.type_inv) ∙ c.number_at-target.ensures)
     (to_z-of_z {w = w32} (sfits_of c.last_at-n.type_inv) ∙ c.last_at-n.ensures)
+
+pub returns-else-has_list : goal.returns-else-has_list
+returns-else-has_list c =
+    let a = c.args in
+    let d = sym c.is_due.ensures ∙ asked-yes c.is_due.result _ c.in_ok-ask.ensures in
+    no-list _ a.tape.now a.at a.due a.mark c.requires d (sym c.has_list.ensures ∙ c.if-has_list.false)

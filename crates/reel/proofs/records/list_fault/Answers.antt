@@ -1,65 +1,34 @@
 -- `list_fault`: the tests, in the definition's order.
-use mathlib.Core.Path.{◌≡◌, sym, ap, ◌∙◌}
-use Prim.Native.Nat.{◌≤◌}
-use native.Mathlib.Omega.{arith}
-use mir.Syntax.{w32}
-use mir.Facts.{to_z-of_z}
-use mathlib.Core.Bool.{true}
+use Rattle.std.proofs.Common.{◌∙◌, ◌-◌, ◌*◌, sym, ap, arith, length, w32, to_z-of_z}
+use Rattle.std.proofs.lemmas.Result.{err_from_is_err_and}
 use Rattle.laws.specs.Integers.{cut}
-use Rattle.numbers.specs.Limits.{list_limit}
 use Rattle.laws.proofs.Tests.{is_at}
 use Rattle.numbers.specs.Ranges.{is_target}
 use Rattle.reel.specs.Records.{is_count}
-use Rattle.reel.proofs.Reading.{count-few, no_target, no-count, short-list, whole-list}
+use Rattle.reel.proofs.Asking.{asked-no, asked-yes, told-within}
+use Rattle.reel.proofs.Reading.{no_target, no-count, short-list, whole-list}
 use Rattle.reel.proofs.records.list_fault.Goals as goal
 
-module _ (c : goal.After-count_of-k) where
-  counts : is_count c.args.n ≡ true
-  counts = sym (is_at w32 is_count c.ranges.n.sfits c.is_count.ensures) ∙ c.if-not-is_count.false
+pub returns-in_err-ask : goal.returns-in_err-ask
+returns-in_err-ask c =
+    let p = err_from_is_err_and c.from_residual.result c.from_residual.ensures.1 in
+    let n = asked-no c.is_target.result c.in_err-ask.ensures in
+    rw (p.1, p.2, n.1) (no_target _ _ _ _ _ (sym (is_at w32 is_target c.ranges.target.sfits c.is_target.ensures) ∙ n.0))
 
-  counted : c.count_of-k.result ≡ cut c.args.n
-  counted = c.count_of-k.ensures ∙ ap cut (to_z-of_z c.ranges.n)
-
-  few : c.count_of-k.result ≤ list_limit
-  few = omega (arith, counted, count-few list_limit c.args.n counts)
-
-module _ (c : goal.Then-tape-at) where
-  target-at-2 : is_target c.args.target ≡ true
-  target-at-2 = sym (is_at w32 is_target c.ranges.target.sfits c.is_target.ensures) ∙ c.if-not-is_target.false
-
-  counts-at-2 : is_count c.args.n ≡ true
-  counts-at-2 = sym (is_at w32 is_count c.ranges.n.sfits c.is_count.ensures) ∙ c.if-not-is_count.false
-
-  counted-at-2 : c.count_of-k.result ≡ cut c.args.n
-  counted-at-2 = c.count_of-k.ensures ∙ ap cut (to_z-of_z c.ranges.n)
-
-module _ (c : goal.Else-tape-at) where
-  target-at-3 : is_target c.args.target ≡ true
-  target-at-3 = sym (is_at w32 is_target c.ranges.target.sfits c.is_target.ensures) ∙ c.if-not-is_target.false
-
-  counts-at-3 : is_count c.args.n ≡ true
-  counts-at-3 = sym (is_at w32 is_count c.ranges.n.sfits c.is_count.ensures) ∙ c.if-not-is_count.false
-
-  counted-at-3 : c.count_of-k.result ≡ cut c.args.n
-  counted-at-3 = c.count_of-k.ensures ∙ ap cut (to_z-of_z c.ranges.n)
-
-pub returns-then-not-is_target : goal.returns-then-not-is_target
-returns-then-not-is_target c = no_target _ _ _ _ _ (sym (is_at w32 is_target c.ranges.target.sfits c.is_target.ensures) ∙ c.if-not-is_target.true)
-
-pub returns-then-not-is_count : goal.returns-then-not-is_count
-returns-then-not-is_count c =
-    let t = sym (is_at w32 is_target c.ranges.target.sfits c.is_target.ensures) ∙ c.if-not-is_target.false in
-    no-count _ _ _ _ _ t (sym (is_at w32 is_count c.ranges.n.sfits c.is_count.ensures) ∙ c.if-not-is_count.true)
-
-pub overflow_mul-k : goal.overflow_mul-k
-overflow_mul-k c = omega (arith, few c)
-
-pub returns-then-tape-at : goal.returns-then-tape-at
-returns-then-tape-at c =
-    let h = c.if-tape-at.true in
-    short-list _ _ _ _ _ (target-at-2 c) (counts-at-2 c) (omega (arith, counted-at-2 c, c.requires))
+pub returns-in_err-ask-2 : goal.returns-in_err-ask-2
+returns-in_err-ask-2 c =
+    let p = err_from_is_err_and c.from_residual-in_err-ask-2.result c.from_residual-in_err-ask-2.ensures.1 in
+    let t = sym (is_at w32 is_target c.ranges.target.sfits c.is_target.ensures) ∙ asked-yes c.is_target.result _ c.in_ok-ask.ensures in
+    let n = asked-no c.is_count.result c.in_err-ask-2.ensures in
+    rw (p.1, p.2, n.1) (no-count _ _ _ _ _ t (sym (is_at w32 is_count c.ranges.n.sfits c.is_count.ensures) ∙ n.0))
 
 pub returns : goal.returns
 returns c =
-    let h = c.if-tape-at.false in
-    whole-list _ _ _ _ _ (target-at-3 c) (counts-at-3 c) (omega (arith, counted-at-3 c, c.requires))
+    let a = c.args in
+    let t = sym (is_at w32 is_target c.ranges.target.sfits c.is_target.ensures) ∙ asked-yes c.is_target.result _ c.in_ok-ask.ensures in
+    let k = sym (is_at w32 is_count c.ranges.n.sfits c.is_count.ensures) ∙ asked-yes c.is_count.result _ c.in_ok-ask-2.ensures in
+    let counted = c.count_of.ensures ∙ ap cut (to_z-of_z c.ranges.n) in
+    let r = c.requires in
+    rw c.ask-3.ensures (told-within (4 * c.count_of.result) (length a.tape.now - a.at) _
+    (λ h. whole-list _ _ _ _ _ t k (omega arith))
+    (λ h. short-list _ _ _ _ _ t k (omega arith)))
