@@ -4,12 +4,13 @@
 #![tactic(auto)]
 
 ghost use Rattle.std.specs.Prelude.{◌≡◌};
+ghost use Rattle.numbers.specs.Refusals.{told};
 ghost use Rattle.cycling.specs.Calls.{quick_refusal, cycled_of, cycled_list};
 
 use budget::{Budget, budget_ok};
 use cycles::{Cycle, PLACES, Round, gains, owed_by, run_table};
 use eventlist::WIDTH;
-use numbers::is_time;
+use numbers::{Refusal, ask, code_of, is_time};
 use state::{Track, cycles_of, lent_alone, track_ok};
 
 // What a cycle call answers: its number, the count of the list, the budget and the cycle table afterwards.
@@ -22,7 +23,7 @@ pub struct Cycled {
     pub cycles: [Cycle; PLACES],
 }
 
-// The number of a cycle call over a list of `long` numbers and `size` lent records. No write is made or walked for it.
+// Why a cycle call over a list of `long` numbers and `size` lent records is refused, if it is. No write is made or walked for it.
 pub fn cycle_refusal(
     track: Track,
     size: usize,
@@ -31,29 +32,19 @@ pub fn cycle_refusal(
     budget: Budget,
     long: usize,
     count: usize,
-) -> u32
-    ensures { result ≡ quick_refusal track size cycles until budget long count }
+) -> Result<(), Refusal>
+    ensures { told result ≡ quick_refusal track size cycles until budget long count }
 {
     let rows = long / WIDTH;
-    if !((long % WIDTH == 0) & (count <= rows) & (size == PLACES)) {
-        return 1;
-    }
-    let a = is_time(until);
-    let b = track_ok(track);
-    let c = budget_ok(budget);
-    if !(a & b & c) {
-        return 4;
-    }
+    let listed = (long % WIDTH == 0) & (count <= rows) & (size == PLACES);
+    ask(listed, Refusal::NotAList)?;
+    let alone = is_time(until) & track_ok(track) & budget_ok(budget);
+    ask(alone, Refusal::OutOfRange)?;
     let own = cycles_of(track, cycles);
-    if !lent_alone(track.notes, track.waves, track.sines, own) {
-        return 4;
-    }
-    let owes = owed_by(cycles, track.cycles, until);
-    let more = gains(budget, owes);
-    if (rows as u64) < (count as u64) + more {
-        return 7;
-    }
-    0
+    let lent = lent_alone(track.notes, track.waves, track.sines, own);
+    ask(lent, Refusal::OutOfRange)?;
+    let more = gains(budget, owed_by(cycles, track.cycles, until));
+    ask(count as u64 + more <= rows as u64, Refusal::NoRoom)
 }
 
 // Makes the writes of the track's cycles that are due up to `until`, in table order, at most 10,000 and one more than fit:
@@ -71,28 +62,27 @@ pub fn write_cc_on_cycle(
     ensures { (result ≡ cycled_of track size cycles until budget events.old count)
         × (events.new ≡ cycled_list track size cycles until budget events.old count) }
 {
-    let code = cycle_refusal(track, size, cycles, until, budget, events.len(), count);
+    let code = code_of(cycle_refusal(track, size, cycles, until, budget, events.len(), count));
     if code != 0 {
         return Cycled {
-            code: code,
-            count: count,
-            budget: budget,
-            cycles: cycles,
+            code,
+            count,
+            budget,
+            cycles,
         };
     }
-    let options = track.options;
+    let options = track.options; // an array goes from field to field by a variable
     let round = Round {
-        until: until,
+        until,
         channel: track.channel,
-        options: options,
+        options,
     };
     let r = run_table(cycles, track.cycles, round, budget, events, count);
-    let after = r.budget;
     let table = r.table;
     Cycled {
         code: 0,
         count: r.count,
-        budget: after,
+        budget: r.budget,
         cycles: table,
     }
 }

@@ -44,11 +44,10 @@ use Rattle.cycling.specs.Calls.{round_of, left_by, gains_of, in_order, cycle_ref
 use Rattle.cycling.proofs.Refusing.{quick, refused, listed, allowed, roomy, answer, list_left_lem, is-time, is-lent, sixteen}
 use Rattle.cycling.proofs.Calling.{front}
 use Rattle.lending.specs.declared.Going.{Going}
-use Rattle.lending.specs.declared.Job.{Job}
 use Rattle.lending.specs.declared.Answer.{Answer}
 use Rattle.lending.specs.declared.Went.{Went}
 use Rattle.lending.specs.Passing.{ran, placed}
-use Rattle.lending.specs.Moving.{loading, loaded_of, past}
+use Rattle.lending.specs.Moving.{no_cycles, loaded_of, past}
 use Rattle.lending.specs.Writing.{made_by, may_go, orderly, share_of, share_events, went_list, Pass, pass_of, onward, advanced_by, begun_with, answer_of}
 use Rattle.lending.proofs.Stepping as S
 
@@ -89,18 +88,15 @@ module _ (a : Track) (ys : List Cycle) (u : ℤ) (b : Budget) (l : List ℤ) (n 
   abbrev code : ℕ
   code = cycle_refusal a (length ys) ys u b l n
 
-  abbrev loaded : Bool → Job
-  loaded t = cond t (record { saves = false; size = places; at = places; cycles = ys }) (loading (length ys))
-
-  numbered-by : (t : Bool) → eqb (length ys) places ≡ t → quick_refusal a (loaded t).size (loaded t).cycles u b (length l) n ≡ quick_refusal a (length ys) ys u b (length l) n
+  numbered-by : (t : Bool) → eqb (length ys) places ≡ t → quick_refusal a (length ys) (cond t ys no_cycles) u b (length l) n ≡ quick_refusal a (length ys) ys u b (length l) n
   unfolding quick_refusal
-  numbered-by true e = let k = eqb-true (length ys) places e in rw k
+  numbered-by true e = refl
   numbered-by false e = rw e
-      (closed (eqb (length l % record_width) 0 && leb n (length l / record_width)) (is_time u && ok_lent a (loaded false).cycles && ok_budget b) (ltb (length l / record_width) (n + gains_of a (loaded false).cycles u b))
+      (closed (eqb (length l % record_width) 0 && leb n (length l / record_width)) (is_time u && ok_lent a no_cycles && ok_budget b) (ltb (length l / record_width) (n + gains_of a no_cycles u b))
       (is_time u && ok_lent a ys && ok_budget b) (ltb (length l / record_width) (n + gains_of a ys u b)))
 
   -- asked of the loaded records, it is the number of the call
-  numbered : (begun_with a (loaded_of ys) u b (length l) n).code ≡ code
+  numbered : (begun_with a (length ys) (loaded_of ys) u b (length l) n).code ≡ code
   unfolding begun_with loaded_of
   numbered = numbered-by (eqb (length ys) places) refl ∙ sym (quick a (length ys) ys u b l n)
 
@@ -108,7 +104,7 @@ module _ (a : Track) (ys : List Cycle) (u : ℤ) (b : Budget) (l : List ℤ) (n 
   round = round_of a u
 
   abbrev begun : Pass
-  begun = pass_of (begun_with a (loaded_of ys) u b (length l) n) l
+  begun = pass_of (begun_with a (length ys) (loaded_of ys) u b (length l) n) l
 
   -- what the walk leaves is what the call leaves
   abbrev Called' : Pass → List Cycle → Type 0
@@ -330,7 +326,7 @@ module _ (a : Track) (ys : List Cycle) (u : ℤ) (b : Budget) (l : List ℤ) (n 
       go false e = refused-walk (λ z. true≢false (sym (eq-eqb code 0 z) ∙ e))
 
   -- as the lent call has it: what it loaded, began with and asked, and what the walk left
-  pub lent-call : (r1 : Job) (ys1 : List Cycle) (r2 : Going) (r3 : Round) → r1 ≡ loaded_of ys → ys1 ≡ ys → r2 ≡ begun_with a r1 u b (length l) n → r3 ≡ round_of a u
+  pub lent-call : (r1 : List Cycle) (ys1 : List Cycle) (r2 : Going) (r3 : Round) → r1 ≡ loaded_of ys → ys1 ≡ ys → r2 ≡ begun_with a (length ys) r1 u b (length l) n → r3 ≡ round_of a u
       → (r4 : Going) (ys4 : List Cycle) (l4 : List ℤ)
       → r4 ≡ (ran (onward r3) (pass_of r2 l) ys1).state → ys4 ≡ placed (onward r3) (advanced_by r3) (pass_of r2 l) ys1 → l4 ≡ (ran (onward r3) (pass_of r2 l) ys1).events
       → (◌≡◌ {A = Answer} (record { code = r4.code; count = r4.count }) (answer_of (cycled_of a (length ys) ys u b l n)))
@@ -339,7 +335,7 @@ module _ (a : Track) (ys : List Cycle) (u : ℤ) (b : Budget) (l : List ℤ) (n 
       × (l4 ≡ cycled_list a (length ys) ys u b l n)
   lent-call r1 ys1 r2 r3 e1 f1 e2 e3 r4 ys4 l4 g h k =
       let w = walked in
-      let p : pass_of r2 l ≡ begun = ap (λ (s : Going). pass_of s l) (e2 ∙ ap (λ (j : Job). begun_with a j u b (length l) n) e1) in
+      let p : pass_of r2 l ≡ begun = ap (λ (s : Going). pass_of s l) (e2 ∙ ap (λ (cs : List Cycle). begun_with a (length ys) cs u b (length l) n) e1) in
       let state : ran (onward r3) (pass_of r2 l) ys1 ≡ ran (onward round) begun ys = rw (e3, f1, p) in
       let table : placed (onward r3) (advanced_by r3) (pass_of r2 l) ys1 ≡ placed (onward round) (advanced_by round) begun ys = rw (e3, f1, p) in
       let s4 = g ∙ ap (λ (x : Pass). x.state) state in (

@@ -1,5 +1,3 @@
-pub mod Again
 pub mod Turns
-pub mod Moving
 pub mod Stepping
 pub mod InPlace

@@ -21,7 +21,6 @@ use Rattle.cycling.specs.declared.Cycled.{Cycled}
 use Rattle.cycling.specs.Calls.{quick_refusal}
 use Rattle.lending.specs.declared.Answer.{Answer}
 use Rattle.lending.specs.declared.Going.{Going}
-use Rattle.lending.specs.declared.Job.{Job}
 use Rattle.lending.specs.declared.Went.{Went}
 
 -- how many writes a record makes of those that are left
@@ -75,9 +74,9 @@ abbrev pub advanced_by : Round → Pass → Cycle → Cycle
 advanced_by round p c = (went_of round c p.events p.state).cycle
 
 -- ---- the call
-unfoldable pub begun_with : Track → Job → ℤ → Budget → ℕ → ℕ → Going
-begun_with a j until b long count =
-    record { code = quick_refusal a j.size j.cycles until b long count; used = a.cycles; left = limit b; budget = b; count = count }
+unfoldable pub begun_with : Track → ℕ → List Cycle → ℤ → Budget → ℕ → ℕ → Going
+begun_with a size cs until b long count =
+    record { code = quick_refusal a size cs until b long count; used = a.cycles; left = limit b; budget = b; count = count }
 
 -- what the lent call answers of it
 abbrev pub answer_of : Cycled → Answer

@@ -1,10 +1,9 @@
 -- A call on a cycle table by value, made over one that is lent: the records are loaded, the call is made, its records are saved. It is the
 -- call on the lent records themselves: of sixteen, loading and saving is the identity; any other table is refused with 1 and left.
-use mathlib.Core.Path.{◌≡◌, refl, sym, ap, ap₂, ◌∙◌}
+use mathlib.Core.Path.{◌≡◌, refl, sym, ap, ◌∙◌}
 use mathlib.Core.Bool.{Bool, true, false, cond}
 use mathlib.Core.List.{List}
 use Prim.Native.Nat.{ℕ}
-use borrow.Author.Tests.{eqb-true}
 use lib.Dec.{eqb}
 use lib.IntN.{ℤ}
 use lib.ListN.{length}
@@ -16,8 +15,7 @@ use Rattle.state.specs.declared.TrackAnswer.{TrackAnswer}
 use Rattle.reserving.specs.declared.Kept.{Kept}
 use Rattle.reserving.specs.Clearing.{answer, left, refusal, reserving}
 use Rattle.reserving.specs.Setting.{remove_reserve, set_on_note, set_on_note_wave, set_on_note_sine, set_on_cycle}
-use Rattle.lending.specs.declared.Job.{Job}
-use Rattle.lending.specs.Moving.{no_cycles, loading, loaded_of, saved_of}
+use Rattle.lending.specs.Moving.{no_cycles, loaded_of, saved_of}
 use Rattle.loans.specs.Lent.{Reserved, kept}
 
 -- every setter refuses another number of records than sixteen with 1
@@ -26,29 +24,21 @@ unfolding reserving refusal left
 alone a n cs target short ok room put e = rw e
 
 module _ (a : Track) (call : ℕ → List Cycle → Kept) (refused : (n : ℕ) (cs : List Cycle) → eqb n places ≡ false → call n cs ≡ answer 1 a cs) (ys : List Cycle) where
-  abbrev by_value : Job → Kept
-  by_value j = call j.size j.cycles
-
-  abbrev loaded : Bool → Job
-  loaded b = cond b (record { saves = false; size = places; at = places; cycles = ys }) (loading (length ys))
-
-  same : (kept (by_value (loaded_of ys)) ≡ kept (call (length ys) ys)) × (saved_of (by_value (loaded_of ys)).cycles ys ≡ (call (length ys) ys).cycles)
+  same : (kept (call (length ys) (loaded_of ys)) ≡ kept (call (length ys) ys)) × (saved_of (call (length ys) (loaded_of ys)).cycles ys ≡ (call (length ys) ys).cycles)
   unfolding loaded_of saved_of
   same = go (eqb (length ys) places) refl
     where
-      go : (b : Bool) → eqb (length ys) places ≡ b → (kept (by_value (loaded b)) ≡ kept (call (length ys) ys)) × (cond b (by_value (loaded b)).cycles ys ≡ (call (length ys) ys).cycles)
-      go true e = let n = sym (eqb-true (length ys) places e) in (ap (λ (m : ℕ). kept (call m ys)) n, ap (λ (m : ℕ). (call m ys).cycles) n)
+      go : (b : Bool) → eqb (length ys) places ≡ b
+          → (kept (call (length ys) (cond b ys no_cycles)) ≡ kept (call (length ys) ys)) × (cond b (call (length ys) (cond b ys no_cycles)).cycles ys ≡ (call (length ys) ys).cycles)
+      go true e = (refl, refl)
       go false e =
           (ap kept (refused (length ys) no_cycles e) ∙ sym (ap kept (refused (length ys) ys e)), sym (ap (λ (k : Kept). k.cycles) (refused (length ys) ys e)))
 
-  -- j was loaded and ys left; the call of its records cs gave k, of which t was saved and zs left, and r answered
-  pub lent : (j : Job) (ys' cs : List Cycle) (k : Kept) (t zs : List Cycle) (r : TrackAnswer) → j ≡ loaded_of ys → ys' ≡ ys → cs ≡ j.cycles → k ≡ call j.size cs → t ≡ k.cycles → zs ≡ saved_of t ys' → r ≡ kept k → Reserved (call (length ys) ys) r zs
-  lent j ys' cs k t zs r ej ey ec ek et ez er =
-      let c : k ≡ by_value (loaded_of ys) = ek ∙ ap (call j.size) ec ∙ ap by_value ej in
-      record {
-        answer = er ∙ ap kept c ∙ same.0;
-        left = ez ∙ ap₂ saved_of (et ∙ ap (λ (k : Kept). k.cycles) c) ey ∙ same.1;
-      }
+  -- cs was loaded; the call of it gave k, whose records were saved and left zs, and r answered
+  pub lent : (cs : List Cycle) (k : Kept) (zs : List Cycle) (r : TrackAnswer) → cs ≡ loaded_of ys → k ≡ call (length ys) cs → r ≡ kept k → zs ≡ saved_of k.cycles ys → Reserved (call (length ys) ys) r zs
+  lent cs k zs r ec ek er ez =
+      let c : k ≡ call (length ys) (loaded_of ys) = ek ∙ ap (call (length ys)) ec in
+      record { answer = er ∙ ap kept c ∙ same.0; left = ez ∙ ap (λ (k : Kept). saved_of k.cycles ys) c ∙ same.1 }
 
 -- ---- the calls
 

@@ -8,15 +8,16 @@ ghost use Rattle.drawing.specs.Calls.{draw_answer, draw_left, on_time, cc_target
 ghost use Rattle.waving.specs.Calls.{note_written, note_left};
 ghost use Rattle.noting.specs.Calls.{noted, list_left};
 ghost use Rattle.reserving.specs.Setting.{remove_reserve, set_on_note, set_on_note_wave, set_on_note_sine, set_on_cycle};
-ghost use Rattle.loans.specs.Lent.{Written, Reserved, NoteWritten, kept, note_told};
+ghost use Rattle.lending.specs.Moving.{saved_of};
+ghost use Rattle.loans.specs.Lent.{Written, Reserved, NoteWritten, told, kept};
 
 use budget::Budget;
 use cycles::{Cycle, PLACES};
-use lending::{Answer, Job, load_cycles, save_cycles};
-use noting::Noted;
+use lending::{Answer, load_cycles, save_cycles};
 use reserving::Kept;
 use state::{Track, TrackAnswer};
 use tables::OnNoteSine;
+use writing::Outcome;
 
 // What the write for a note answers: its number, the count of the list and the track afterwards.
 #[repr(C)]
@@ -25,6 +26,29 @@ pub struct NoteAnswer {
     pub code: u32,
     pub count: usize,
     pub track: Track,
+}
+
+// Puts back the budget that a write by value leaves, and answers the rest of it.
+fn spent(budget: &mut Budget, r: Outcome) -> Answer
+    ensures { (result ≡ told r) × (budget.new ≡ r.budget) }
+{
+    *budget = r.budget;
+    Answer {
+        code: r.code,
+        count: r.count,
+    }
+}
+
+// Puts back the records that a setter by value leaves, and answers the rest of it.
+fn kept(cycles: &mut [Cycle], k: Kept) -> TrackAnswer
+    ensures { (result ≡ kept k) × (cycles.new ≡ saved_of k.cycles cycles.old) }
+{
+    let table = k.cycles; // an array goes from field to call by a variable
+    save_cycles(cycles, table);
+    TrackAnswer {
+        code: k.code,
+        track: k.track,
+    }
 }
 
 // Writes a curve at the track's time: `list` is triples of a low, a high and a length. Answers the new count, and leaves the
@@ -43,11 +67,7 @@ pub fn write_on_time(
         result budget.new events.new }
 {
     let r = drawing::write_on_time(track, target, list, *budget, events, count, store);
-    *budget = r.budget;
-    Answer {
-        code: r.code,
-        count: r.count,
-    }
+    spent(budget, r)
 }
 
 // `write_on_time` of a controller by its number. Refuses 1, 2, 3, 4, 7.
@@ -65,11 +85,7 @@ pub fn write_cc_on_time(
         result budget.new events.new }
 {
     let r = drawing::write_cc_on_time(track, number, list, *budget, events, count, store);
-    *budget = r.budget;
-    Answer {
-        code: r.code,
-        count: r.count,
-    }
+    spent(budget, r)
 }
 
 // `write_on_time` of the bend, 0 being the small one. Refuses 1, 3, 4, 7.
@@ -87,11 +103,7 @@ pub fn write_pb_on_time(
         result budget.new events.new }
 {
     let r = drawing::write_pb_on_time(track, big, list, *budget, events, count, store);
-    *budget = r.budget;
-    Answer {
-        code: r.code,
-        count: r.count,
-    }
+    spent(budget, r)
 }
 
 // Writes a sine at the track's time, `times` turns of `len` steps from `low` to `high`; `shape` is 0 for a full turn, 1 and 2
@@ -116,11 +128,7 @@ pub fn write_sine(
     let r = drawing::write_sine(
         track, target, shape, low, high, len, times, *budget, events, count, store,
     );
-    *budget = r.budget;
-    Answer {
-        code: r.code,
-        count: r.count,
-    }
+    spent(budget, r)
 }
 
 // Writes the waves and then the sines that are reserved for the track's notes, over a note from `start` to the track's time.
@@ -137,51 +145,7 @@ pub fn write_cc_on_note_wave(
         (note_left (length store.now) track start budget.old events.old count) result budget.new events.new }
 {
     let r = waving::write_cc_on_note_wave(track, start, *budget, events, count, store);
-    *budget = r.budget;
-    Answer {
-        code: r.code,
-        count: r.count,
-    }
-}
-
-// The parts of what a call by value answers.
-fn budget_of(o: Noted) -> Budget
-    ensures { result ≡ o.budget }
-{
-    o.budget
-}
-
-fn note_answer(o: Noted) -> NoteAnswer
-    ensures { result ≡ note_told o }
-{
-    let track = o.track;
-    NoteAnswer {
-        code: o.code,
-        count: o.count,
-        track: track,
-    }
-}
-
-fn records_of(j: Job) -> [Cycle; PLACES]
-    ensures { result ≡ j.cycles }
-{
-    j.cycles
-}
-
-fn table_of(k: Kept) -> [Cycle; PLACES]
-    ensures { result ≡ k.cycles }
-{
-    k.cycles
-}
-
-fn track_answer(k: Kept) -> TrackAnswer
-    ensures { result ≡ kept k }
-{
-    let track = k.track;
-    TrackAnswer {
-        code: k.code,
-        track: track,
-    }
+    spent(budget, r)
 }
 
 // Writes what a track's lists have for a note that starts at `start`. Answers the new count and the track, whose lists are
@@ -198,19 +162,21 @@ pub fn write_cc_on_note(
         result budget.new events.new }
 {
     let o = noting::write_cc_on_note(track, start, *budget, events, count);
-    *budget = budget_of(o);
-    note_answer(o)
+    *budget = o.budget;
+    NoteAnswer {
+        code: o.code,
+        count: o.count,
+        track: o.track,
+    }
 }
 
 // Takes out the reservations of a target, of all four kinds. Answers the track. Refuses 1, 2, 4.
 pub fn remove_reserve(track: Track, cycles: &mut [Cycle], target: i32) -> TrackAnswer
     ensures { Reserved (remove_reserve track (length cycles.old) cycles.old target) result cycles.new }
 {
-    let loaded = load_cycles(cycles);
-    let table = records_of(loaded);
-    let k = reserving::remove_reserve(track, loaded.size, table, target);
-    save_cycles(cycles, table_of(k));
-    track_answer(k)
+    let table = load_cycles(cycles);
+    let k = reserving::remove_reserve(track, cycles.len(), table, target);
+    kept(cycles, k)
 }
 
 // Reserves a list of numbers for a target, one for each note, in place of what is reserved for it. Answers the track.
@@ -218,11 +184,9 @@ pub fn remove_reserve(track: Track, cycles: &mut [Cycle], target: i32) -> TrackA
 pub fn set_on_note(track: Track, cycles: &mut [Cycle], target: i32, list: &[i32]) -> TrackAnswer
     ensures { Reserved (set_on_note track (length cycles.old) cycles.old target list.now) result cycles.new }
 {
-    let loaded = load_cycles(cycles);
-    let table = records_of(loaded);
-    let k = reserving::set_on_note(track, loaded.size, table, target, list);
-    save_cycles(cycles, table_of(k));
-    track_answer(k)
+    let table = load_cycles(cycles);
+    let k = reserving::set_on_note(track, cycles.len(), table, target, list);
+    kept(cycles, k)
 }
 
 // Reserves a wave for a target: `list` is triples of a low, a high and a length. Answers the track. Refuses 1, 2, 3, 4, 6.
@@ -235,11 +199,9 @@ pub fn set_on_note_wave(
 ) -> TrackAnswer
     ensures { Reserved (set_on_note_wave track (length cycles.old) cycles.old target mode list.now) result cycles.new }
 {
-    let loaded = load_cycles(cycles);
-    let table = records_of(loaded);
-    let k = reserving::set_on_note_wave(track, loaded.size, table, target, mode, list);
-    save_cycles(cycles, table_of(k));
-    track_answer(k)
+    let table = load_cycles(cycles);
+    let k = reserving::set_on_note_wave(track, cycles.len(), table, target, mode, list);
+    kept(cycles, k)
 }
 
 // Reserves a sine for a target, which it must name. Answers the track. Refuses 1, 2, 4, 6.
@@ -251,11 +213,9 @@ pub fn set_on_note_sine(
 ) -> TrackAnswer
     ensures { Reserved (set_on_note_sine track (length cycles.old) cycles.old target sine) result cycles.new }
 {
-    let loaded = load_cycles(cycles);
-    let table = records_of(loaded);
-    let k = reserving::set_on_note_sine(track, loaded.size, table, target, sine);
-    save_cycles(cycles, table_of(k));
-    track_answer(k)
+    let table = load_cycles(cycles);
+    let k = reserving::set_on_note_sine(track, cycles.len(), table, target, sine);
+    kept(cycles, k)
 }
 
 // Reserves a cycle of `list` for a target, one number every `len` steps from the track's time on; it comes last in the table.
@@ -269,9 +229,7 @@ pub fn set_on_cycle(
 ) -> TrackAnswer
     ensures { Reserved (set_on_cycle track (length cycles.old) cycles.old target len list.now) result cycles.new }
 {
-    let loaded = load_cycles(cycles);
-    let table = records_of(loaded);
-    let k = reserving::set_on_cycle(track, loaded.size, table, target, len, list);
-    save_cycles(cycles, table_of(k));
-    track_answer(k)
+    let table = load_cycles(cycles);
+    let k = reserving::set_on_cycle(track, cycles.len(), table, target, len, list);
+    kept(cycles, k)
 }

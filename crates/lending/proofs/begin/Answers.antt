@@ -6,4 +6,4 @@ use Rattle.lending.proofs.begin.Goals as goal
 pub returns : goal.returns
 unfolding begun_with
 returns c =
-    rw (rw (to_z-of_z c.ranges.until) at c.cycle_refusal-code.ensures, c.write_limit-left.ensures.1)
+    rw (c.code_of.ensures, rw (to_z-of_z c.ranges.until) at c.cycle_refusal.ensures, c.write_limit.ensures.1)

@@ -1,15 +1,13 @@
--- `load_cycles` makes the walk of a loading job (Moving).
-use mathlib.Core.Path.{ap, ◌∙◌}
-use Rattle.lending.specs.declared.Job.{Job}
-use Rattle.lending.specs.Passing.{ran, placed}
-use Rattle.lending.specs.Moving.{moved, carried}
-use Rattle.lending.proofs.Moving.{loads, keeps}
+-- Sixteen lent records are copied, of any other number none is.
+use borrow.Author.Tests.{eq-eqb, ne_eqb}
+use lib.ListN.{length}
+use Rattle.lending.specs.Moving.{loaded_of}
 use Rattle.lending.proofs.load_cycles.Goals as goal
 
-pub returns : goal.returns
-returns c =
-    let ys = c.args.cycles.now in
-    let e = c.move_records.ensures in (
-      e.0 ∙ ap (λ (j : Job). ran moved j ys) c.load_job-job.ensures ∙ loads ys,
-      e.1 ∙ ap (λ (j : Job). placed moved carried j ys) c.load_job-job.ensures ∙ keeps ys,
-    )
+pub returns-then-cycles-eq-PLACES : goal.returns-then-cycles-eq-PLACES
+unfolding loaded_of
+returns-then-cycles-eq-PLACES c = rw (eq-eqb (length c.args.cycles.now) 16 c.if-cycles-eq-PLACES.true) c.copy_from_slice.ensures.after
+
+pub returns-else-cycles-eq-PLACES : goal.returns-else-cycles-eq-PLACES
+unfolding loaded_of
+returns-else-cycles-eq-PLACES c = rw (ne_eqb (length c.args.cycles.now) 16 c.if-cycles-eq-PLACES.false) (simp c.none-own.ensures)

@@ -36,29 +36,29 @@ module _ (round : Round) (c : Cycle) (long : ℕ) (s : Going) (fit : SFits w64 r
       → n ≡ min (room value_bytes s.budget) (made_by round c s.left)
   added p q r e = e ∙ ap₂ min r (q ∙ ap (min s.left) (p ∙ rw (to_z-of_z fit)))
 
-pub returns-then-not-s-ok : goal.returns-then-not-s-ok
+pub returns-else-s-ok : goal.returns-else-s-ok
 unfolding may_go
-returns-then-not-s-ok c =
+returns-else-s-ok c =
     let a = c.args in
-    and_no _ (asked a.round a.c a.long a.s (search rules) c.cycle_ok-ok.ensures c.is_time-timely.ensures c.if-not-s-ok.true)
+    and_no _ (asked a.round a.c a.long a.s (search rules) c.cycle_ok-ok.ensures c.is_time-timely.ensures c.if-s-ok.false)
 
-pub due_count-due-requires : goal.due_count-due-requires
-due_count-due-requires c =
+pub due_count-requires : goal.due_count-requires
+due_count-requires c =
     let a = c.args in
     let fit : SFits w64 a.round.until = search rules in
-    let o = in_order_lem a.round a.c a.long a.s (asked a.round a.c a.long a.s fit c.cycle_ok-ok.ensures c.is_time-timely.ensures c.if-not-s-ok.false) in
+    let o = in_order_lem a.round a.c a.long a.s (asked a.round a.c a.long a.s fit c.cycle_ok-ok.ensures c.is_time-timely.ensures c.if-s-ok.true) in
     (o.well, rw (to_z-of_z fit) o.timely)
 
 pub overflow_add-result : goal.overflow_add-result
 overflow_add-result c =
     let a = c.args in
-    let o = in_order_lem a.round a.c a.long a.s (asked a.round a.c a.long a.s (search rules) c.cycle_ok-ok.ensures c.is_time-timely.ensures c.if-not-s-ok.false) in
-    omega (arith, c.lesser-more.ensures, c.remaining_event_capacity-fitting.type_inv, o.within)
+    let o = in_order_lem a.round a.c a.long a.s (asked a.round a.c a.long a.s (search rules) c.cycle_ok-ok.ensures c.is_time-timely.ensures c.if-s-ok.true) in
+    omega (arith, c.min-more.ensures, c.from.type_inv, o.within)
 
-pub returns : goal.returns
+pub returns-then-s-ok : goal.returns-then-s-ok
 unfolding may_go
-returns c =
+returns-then-s-ok c =
     let a = c.args in
     let fit : SFits w64 a.round.until = search rules in
-    let n = added a.round a.c a.long a.s fit c.due_count-due.ensures c.lesser-made.ensures c.remaining_event_capacity-fitting.ensures c.lesser-more.ensures in
-    and_yes (asked a.round a.c a.long a.s fit c.cycle_ok-ok.ensures c.is_time-timely.ensures c.if-not-s-ok.false) (ap (λ (k : ℕ). leb (a.s.count + k) (a.long / record_width)) n)
+    let n = added a.round a.c a.long a.s fit c.due_count.ensures c.min-made.ensures (c.from.ensures ∙ c.remaining_event_capacity.ensures) c.min-more.ensures in
+    and_yes (asked a.round a.c a.long a.s fit c.cycle_ok-ok.ensures c.is_time-timely.ensures c.if-s-ok.true) (ap (λ (k : ℕ). leb (a.s.count + k) (a.long / record_width)) n)

@@ -1,13 +1,13 @@
--- `save_cycles` makes the walk of a saving job (Moving).
-use mathlib.Core.Path.{ap, ◌∙◌}
-use Rattle.lending.specs.declared.Job.{Job}
-use Rattle.lending.specs.Passing.{placed}
-use Rattle.lending.specs.Moving.{moved, carried}
-use Rattle.lending.proofs.Moving.{saves}
+-- Sixteen records are put in the place of sixteen, of any other number none is.
+use borrow.Author.Tests.{eq-eqb, ne_eqb}
+use lib.ListN.{length}
+use Rattle.lending.specs.Moving.{saved_of}
 use Rattle.lending.proofs.save_cycles.Goals as goal
 
-pub returns : goal.returns
-returns c =
-    let ys = c.args.cycles.now in
-    let j = c.save_job-job.ensures in
-    c.move_records.ensures.1 ∙ ap (λ (x : Job). placed moved carried x ys) j.0 ∙ saves ys c.args.table j.1
+pub returns-then-cycles-eq-PLACES : goal.returns-then-cycles-eq-PLACES
+unfolding saved_of
+returns-then-cycles-eq-PLACES c = rw (eq-eqb (length c.args.cycles.now) 16 c.if-cycles-eq-PLACES.true) c.copy_from_slice.ensures.after
+
+pub returns-else-cycles-eq-PLACES : goal.returns-else-cycles-eq-PLACES
+unfolding saved_of
+returns-else-cycles-eq-PLACES c = rw (ne_eqb (length c.args.cycles.now) 16 c.if-cycles-eq-PLACES.false)

@@ -36,13 +36,13 @@ run_record-r-requires c =
     let o = goes a.round a.c (length a.events.now) a.s held in
     ready a.round a.c a.events.now a.s held c.ask_for-ask.result (asks a.round a.c (length a.events.now) a.s o c.ask_for-ask.ensures)
 
-pub overflow_sub-going : goal.overflow_sub-going
-overflow_sub-going c =
+pub overflow_sub-result : goal.overflow_sub-result
+overflow_sub-result c =
     let a = c.args in
     (goes a.round a.c (length a.events.now) a.s (sym c.may_go.ensures ∙ c.if-not-may_go.false)).counts
 
-pub overflow_sub-going-2 : goal.overflow_sub-going-2
-overflow_sub-going-2 c =
+pub overflow_sub-result-2 : goal.overflow_sub-result-2
+overflow_sub-result-2 c =
     let a = c.args in
     few-made c.ask_for-ask.result a.s.left a.c a.s.budget (events_of a.events.now a.s.count) c.run_record-r.result c.run_record-r.ensures.0
 

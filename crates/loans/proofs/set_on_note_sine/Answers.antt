@@ -14,8 +14,6 @@ use Rattle.loans.proofs.set_on_note_sine.Goals as goal
 pub returns : goal.returns
 returns c =
     let a = c.args in
-    let x = c.load_cycles-loaded in
     lent a.track (λ (n : ℕ) (cs : List Cycle). set_on_note_sine a.track n cs a.target a.sine)
     (λ (n : ℕ) (cs : List Cycle) (e : eqb n places ≡ false). sine-alone a.track a.target n cs e a.sine) a.cycles.now
-    x.result x.new.cycles c.records_of-table.result c.set_on_note_sine-k.result c.table_of.result c.save_cycles.new.cycles c.track_answer.result
-    x.ensures.0 x.ensures.1 c.records_of-table.ensures (rw (to_z-of_z c.ranges.target) at c.set_on_note_sine-k.ensures) c.table_of.ensures c.save_cycles.ensures c.track_answer.ensures
+    c.load_cycles-table.result c.set_on_note_sine-k.result c.kept.new.cycles c.kept.result c.load_cycles-table.ensures (rw (to_z-of_z c.ranges.target) at c.set_on_note_sine-k.ensures) c.kept.ensures.0 c.kept.ensures.1

@@ -1,5 +1,5 @@
 -- `write_cc_on_note` puts back what the call by value answers.
-use mathlib.Core.Path.{ap, ◌∙◌}
+use mathlib.Core.Path.{ap}
 use mir.Facts.{to_z-of_z}
 use Rattle.noting.specs.declared.Noted.{Noted}
 use Rattle.loans.specs.Lent.{note_told}
@@ -9,7 +9,7 @@ pub returns : goal.returns
 returns c =
     let e = rw (to_z-of_z c.ranges.start) at c.write_cc_on_note-o.ensures in
     record {
-      answer = c.note_answer.ensures ∙ ap note_told e.0;
-      spent = c.budget_of.ensures ∙ ap (λ (o : Noted). o.budget) e.0;
+      answer = ap note_told e.0;
+      spent = ap (λ (o : Noted). o.budget) e.0;
       left = e.1;
     }

@@ -1,5 +1,5 @@
 -- `write_cc_on_note_wave` puts back what the call by value answers.
-use mathlib.Core.Path.{ap}
+use mathlib.Core.Path.{ap, ◌∙◌}
 use mir.Facts.{to_z-of_z}
 use Rattle.writing.specs.declared.Outcome.{Outcome}
 use Rattle.loans.specs.Lent.{told}
@@ -8,4 +8,4 @@ use Rattle.loans.proofs.write_cc_on_note_wave.Goals as goal
 pub returns : goal.returns
 returns c =
     let e = rw (to_z-of_z c.ranges.start) at c.write_cc_on_note_wave-r.ensures in
-    record { answer = ap told e.0; spent = ap (λ (o : Outcome). o.budget) e.0; left = e.1 }
+    record { answer = c.spent.ensures.0 ∙ ap told e.0; spent = c.spent.ensures.1 ∙ ap (λ (o : Outcome). o.budget) e.0; left = e.1 }
