@@ -1,0 +1,39 @@
+-- What a call's number says of what was asked.
+--     told-asked           of one test: its refusal's number, or 0
+--     some-number          no refusal has the number 0
+--     told-well, told-ill  so 0 says that all was well
+use Rattle.std.proofs.Common.{◌≡◌, Bool, true, false, cond, refl, arith, Result, Ok, Err}
+use Rattle.std.specs.Prelude.{is_ok}
+use Rattle.numbers.specs.declared.refusals.Refusal.{Refusal}
+use Rattle.numbers.specs.declared.refusals.Refusal.TheVariants.{NotAList, NoTarget, TooMany, OutOfRange, NoLayer, NoPlace, NoRoom, TapeFault, OutOfOrder, Unwritable, OutputShort, NoChunk, EventBroken, NoEnd, TwoChannels, BeforeStart}
+use Rattle.numbers.specs.Refusals.{number_of, told, asked}
+
+pub told-asked : (ok : Bool) (r : Refusal) → told (asked ok r) ≡ cond ok 0 (number_of r)
+told-asked true r = refl
+told-asked false r = refl
+
+pub some-number : (r : Refusal) → number_of r ≡ 0 → ⊥
+some-number NotAList e = omega arith
+some-number NoTarget e = omega arith
+some-number TooMany e = omega arith
+some-number OutOfRange e = omega arith
+some-number NoLayer e = omega arith
+some-number NoPlace e = omega arith
+some-number NoRoom e = omega arith
+some-number TapeFault e = omega arith
+some-number OutOfOrder e = omega arith
+some-number Unwritable e = omega arith
+some-number OutputShort e = omega arith
+some-number NoChunk e = omega arith
+some-number EventBroken e = omega arith
+some-number NoEnd e = omega arith
+some-number TwoChannels e = omega arith
+some-number BeforeStart e = omega arith
+
+pub told-well : (q : Result Unit Refusal) → is_ok q ≡ true → told q ≡ 0
+told-well (Ok x) e = refl
+told-well (Err r) e = absurd (cc)
+
+pub told-ill : (q : Result Unit Refusal) → is_ok q ≡ false → told q ≡ 0 → ⊥
+told-ill (Ok x) e = absurd (cc)
+told-ill (Err r) e = some-number r
