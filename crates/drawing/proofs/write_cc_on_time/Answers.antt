@@ -4,7 +4,7 @@ use lib.IntN.{ℤ}
 use lib.ListN.{length}
 use mir.Syntax.{w32}
 use mir.Facts.{to_z-of_z}
-use borrow.Author.Rules.{rules, sfits_of}
+use borrow.Author.Rules.{sfits_of}
 use Rattle.drawing.specs.Calls.{on_time, cc_target}
 use Rattle.drawing.proofs.Drawn.{drawn-at}
 use Rattle.drawing.proofs.write_cc_on_time.Goals as goal
