@@ -90,7 +90,7 @@ module _ (c : After-survey-seen) where
       fits = room ds lone c.args.b R c.args.count c.requires.2 kept kept-stays _ c.plan_of-plan.ensures.added enough
 
 pub returns-then-not-seen : goal.returns-then-not-seen
-returns-then-not-seen c = let q = no (told (goal.at.returns-then-not-seen c).After-survey-seen) c.if-not-seen.true in (rw q, rw q)
+returns-then-not-seen c = let q = no (told (goal.at.returns-then-not-seen c).After-survey-seen) c.if-not-seen.true in rw c.number.ensures (rw q, rw q)
 
 pub overflow_sub-kept : goal.overflow_sub-kept
 overflow_sub-kept c = let t = (seen (goal.at.overflow_sub-kept c).After-survey-seen (not-false _ c.if-not-seen.false)).taken in omega arith
@@ -106,7 +106,7 @@ returns-then-events-kept c =
     let v = (goal.at.returns-then-events-kept c).After-survey-seen in
     let ok = not-false _ c.if-not-seen.false in
     let n = length-rows_of c.args.events.now in
-    rw (stored v ok)
+    rw (c.number-then-events-kept.ensures, stored v ok)
     (refused (ds v) (lone v) c.args.b (R v) c.args.count c.requires.2 (kept v) (kept-stays v ok) _ c.plan_of-plan.ensures.added (let h = c.if-events-kept.true in omega arith))
 
 pub clear_windows-cleared-requires : goal.clear_windows-cleared-requires
