@@ -17,8 +17,11 @@ use Rattle.state.specs.Calls.{answered}
 use Rattle.drawing.specs.declared.OptionAnswer.{OptionAnswer}
 
 -- 2, then 4
+abbrev pub for_target : ℤ → Bool → ℕ
+for_target target well = cond (is_target target) (demand well) 2
+
 unfoldable pub target_refusal : Track → ℤ → Bool → ℕ
-target_refusal a target ok = cond (is_target target) (demand (ok_track a && ok)) 2
+target_refusal a target ok = for_target target (ok_track a && ok)
 
 -- ---- the option of a target, and the track with another one
 unfoldable pub option_of : Track → ℤ → WriteOption

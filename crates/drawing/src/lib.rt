@@ -7,8 +7,9 @@ ghost use Rattle.std.specs.Prelude.{◌≡◌, ◌≤◌, length};
 ghost use Rattle.laws.specs.Integers.{cut};
 ghost use Rattle.numbers.specs.Limits.{places};
 ghost use Rattle.numbers.specs.Ranges.{is_target};
+ghost use Rattle.numbers.specs.Refusals.{told};
 ghost use Rattle.eventlist.specs.Sound.{is_list};
-ghost use Rattle.drawing.specs.Options.{option_of, option_for, left, set_delay, set_random, set_range, clear_range, turned, notes_turned, set_repeat};
+ghost use Rattle.drawing.specs.Options.{for_target, option_of, option_for, left, set_delay, set_random, set_range, clear_range, turned, notes_turned, set_repeat};
 ghost use Rattle.drawing.specs.Frequency.{bend_freq, freq_for};
 ghost use Rattle.drawing.specs.Write.{write_of};
 ghost use Rattle.drawing.specs.Calls.{in_order, Drawn, on_time, cc_target, pb_target, sine_for, on_sine};
@@ -17,7 +18,7 @@ use budget::{Budget, budget_ok};
 use counted::{curve_ok, empty, numbers_of};
 use cycles::key_of;
 use eventlist::list_ok;
-use numbers::{is_length, is_number, is_random, is_target};
+use numbers::{Refusal, ask, code_of, is_controller, is_length, is_number, is_random, is_target};
 use sines::SineType;
 use state::{Track, TrackAnswer, track_ok};
 use tables::{NoteTable, OnNoteSine, OnNoteValues, sine_ok};
@@ -36,56 +37,45 @@ pub struct OptionAnswer {
 fn option_of(track: Track, target: i32) -> WriteOption
     ensures { result ≡ option_of track target }
 {
-    let k = key_of(target);
-    let options = track.options;
-    options[k]
+    track.options[key_of(target)]
+}
+
+// What a call on a target's option or reservations asks: the target, and then the numbers, of which `well` speaks.
+pub fn ask_target(target: i32, well: bool) -> Result<(), Refusal>
+    ensures { told result ≡ for_target target well }
+{
+    ask(is_target(target), Refusal::NoTarget)?;
+    ask(well, Refusal::OutOfRange)
 }
 
 // What is set for a target. Refuses 2, 4.
 pub fn get_write_opt(track: Track, target: i32) -> OptionAnswer
     ensures { result ≡ option_for track target }
 {
-    let none = WriteOption::new();
-    if !is_target(target) {
-        return OptionAnswer {
-            code: 2,
-            option: none,
-        };
-    }
-    if !track_ok(track) {
-        return OptionAnswer {
-            code: 4,
-            option: none,
-        };
-    }
-    let option = option_of(track, target);
-    OptionAnswer {
-        code: 0,
-        option: option,
+    match ask_target(target, track_ok(track)) {
+        Ok(()) => OptionAnswer {
+            code: 0,
+            option: option_of(track, target),
+        },
+        Err(refusal) => OptionAnswer {
+            code: refusal.number(),
+            option: WriteOption::new(),
+        },
     }
 }
 
-// The track with a target's option, where the target, the track and what was handed in are allowed.
+// The track with a target's option, where the target, the track and what was handed in are allowed. A setter changes its field and
+// hands the option on: a closure that changes it would be no shorter, and the track would be compiled in once for each.
 fn leave_option(mut track: Track, target: i32, option: WriteOption, allowed: bool) -> TrackAnswer
     ensures { result ≡ left track target option allowed }
 {
-    if !is_target(target) {
-        return TrackAnswer {
-            code: 2,
-            track: track,
-        };
+    let asked = ask_target(target, track_ok(track) & allowed);
+    if asked.is_ok() {
+        track.options[key_of(target)] = option;
     }
-    if !(track_ok(track) & allowed) {
-        return TrackAnswer {
-            code: 4,
-            track: track,
-        };
-    }
-    let k = key_of(target);
-    track.options[k] = option;
     TrackAnswer {
-        code: 0,
-        track: track,
+        code: code_of(asked),
+        track,
     }
 }
 
@@ -93,33 +83,29 @@ fn leave_option(mut track: Track, target: i32, option: WriteOption, allowed: boo
 pub fn set_delay(track: Track, target: i32, delay: i32) -> TrackAnswer
     ensures { result ≡ set_delay track target delay }
 {
-    let allowed = is_length(delay);
     let mut option = option_of(track, target);
     option.delay = delay;
-    leave_option(track, target, option, allowed)
+    leave_option(track, target, option, is_length(delay))
 }
 
 // How far random moves a target's values; 0 or less is off. Refuses 2, 4.
 pub fn set_random(track: Track, target: i32, random: i32) -> TrackAnswer
     ensures { result ≡ set_random track target random }
 {
-    let allowed = is_random(random);
     let mut option = option_of(track, target);
     option.random = random;
-    leave_option(track, target, option, allowed)
+    leave_option(track, target, option, is_random(random))
 }
 
 // The range to which a target's values are limited. Refuses 2, 4.
 pub fn set_range(track: Track, target: i32, low: i32, high: i32) -> TrackAnswer
     ensures { result ≡ set_range track target low high }
 {
-    let a = is_number(low);
-    let b = is_number(high);
     let mut option = option_of(track, target);
     option.ranged = 1;
     option.low = low;
     option.high = high;
-    leave_option(track, target, option, a & b)
+    leave_option(track, target, option, is_number(low) & is_number(high))
 }
 
 // A target's values are limited no more. Refuses 2, 4.
@@ -134,34 +120,25 @@ pub fn clear_range(track: Track, target: i32) -> TrackAnswer
 }
 
 // A list for notes: where it is that of key `k`, whether it goes round is set.
-fn turn(mut e: OnNoteValues, k: usize, on: u32) -> OnNoteValues
+fn turn(e: OnNoteValues, k: usize, on: u32) -> OnNoteValues
     ensures { result ≡ turned k on e }
 {
     if key_of(e.target) == k {
-        e.cycling = on;
-        return e;
+        OnNoteValues { cycling: on, ..e }
+    } else {
+        e
     }
-    e
 }
 
 // The table with each of its lists so turned.
-fn turn_notes(table: NoteTable, k: usize, on: u32) -> NoteTable
+fn turn_notes(mut table: NoteTable, k: usize, on: u32) -> NoteTable
     requires { table.count ≤ places }
     ensures { result ≡ notes_turned table k on }
 {
-    let count = table.count;
-    let from = table.items;
-    let mut items = table.items;
-    let mut i: usize = 0;
-    while i < count {
-        let e = from[i];
-        items[i] = turn(e, k, on);
-        i += 1;
+    for i in 0..table.count {
+        table.items[i] = turn(table.items[i], k, on);
     }
-    NoteTable {
-        count: count,
-        items: items,
-    }
+    table
 }
 
 // Whether a target's lists for notes go round, 0 or 1; it reaches the list that is stored too. Refuses 2, 4.
@@ -170,22 +147,18 @@ pub fn set_repeat(track: Track, target: i32, on: u32) -> TrackAnswer
 {
     let mut option = option_of(track, target);
     option.repeat = on;
-    let r = leave_option(track, target, option, on <= 1);
-    if r.code != 0 {
-        return r;
+    let mut left = leave_option(track, target, option, on <= 1);
+    if left.code == 0 {
+        left.track.notes = turn_notes(track.notes, key_of(target), on);
     }
-    let k = key_of(target);
-    let mut t = r.track;
-    t.notes = turn_notes(track.notes, k, on);
-    TrackAnswer { code: 0, track: t }
+    left
 }
 
 // How many steps a number is: none below 0.
 fn steps_of(x: i32) -> u64
     ensures { result ≡ cut x }
 {
-    let wide = values::widened(x);
-    offers::length_of(wide)
+    offers::length_of(i64::from(x))
 }
 
 // How many steps apart a bend's values are written: its setting if positive, else a part of the timebase.
@@ -194,22 +167,20 @@ fn bend_freq(freq: i32, timebase: i32) -> u64
 {
     let own = steps_of(freq);
     if own == 0 {
-        let beat = steps_of(timebase);
-        return at_least_one(beat / 32);
+        at_least_one(steps_of(timebase) / 32)
+    } else {
+        own
     }
-    own
 }
 
 // How many steps apart a target's values are written, of the settings of controllers and of bends.
 fn freq_for(target: i32, ccfreq: i32, pbfreq: i32, timebase: i32) -> u64
     ensures { result ≡ freq_for target ccfreq pbfreq timebase }
 {
-    let own = steps_of(ccfreq);
-    let controllers = at_least_one(own);
-    let bends = bend_freq(pbfreq, timebase);
-    match target {
-        0..=127 => controllers,
-        _ => bends,
+    if is_controller(i64::from(target)) {
+        at_least_one(steps_of(ccfreq))
+    } else {
+        bend_freq(pbfreq, timebase)
     }
 }
 
@@ -217,35 +188,31 @@ fn freq_for(target: i32, ccfreq: i32, pbfreq: i32, timebase: i32) -> u64
 pub fn write_of(track: Track, target: i32) -> Write
     ensures { result ≡ write_of track target }
 {
-    let option = option_of(track, target);
-    let freq = freq_for(target, track.ccfreq, track.pbfreq, track.timebase);
     Write {
-        target: target,
+        target,
         channel: track.channel,
         time: track.timepos,
-        freq: freq,
-        option: option,
+        freq: freq_for(target, track.ccfreq, track.pbfreq, track.timebase),
+        option: option_of(track, target),
     }
 }
 
-// The number that refuses a write before its events are looked at, or 0: the list, the target, whether the arguments are
-// short enough, and the numbers, of which `usable` speaks for all but the events'.
-fn asked(target: i32, short: bool, usable: bool, events: &[i64], count: usize) -> u32
-    ensures { result ≡ in_order (is_list events.now count) (is_target target) short usable 0 }
+// What a write asks before its events are looked at: the list, the target, whether the arguments are short enough, and the
+// numbers, of which `usable` speaks for all but the events'.
+#[tactic(auto, unfolding(crate::specs::Calls::in_order))]
+fn asked(
+    target: i32,
+    short: bool,
+    usable: bool,
+    events: &[i64],
+    count: usize,
+) -> Result<(), Refusal>
+    ensures { told result ≡ in_order (is_list events.now count) (is_target target) short usable 0 }
 {
-    if !list_ok(events, count) {
-        return 1;
-    }
-    if !is_target(target) {
-        return 2;
-    }
-    if !short {
-        return 3;
-    }
-    if !usable {
-        return 4;
-    }
-    0
+    ask(list_ok(events, count), Refusal::NotAList)?;
+    ask(is_target(target), Refusal::NoTarget)?;
+    ask(short, Refusal::TooMany)?;
+    ask(usable, Refusal::OutOfRange)
 }
 
 // Writes a curve at the track's time: `list` is triples of a low, a high and a length. Answers the new count and the budget;
@@ -265,12 +232,11 @@ pub fn write_on_time(
     let listed = numbers_of(list);
     let numbers = listed.unwrap_or(empty());
     let usable = track_ok(track) & budget_ok(budget) & curve_ok(numbers);
-    let code = asked(target, listed.is_ok(), usable, events, count);
-    if code != 0 {
+    if let Err(refusal) = asked(target, listed.is_ok(), usable, events, count) {
         return Outcome {
-            code: code,
-            count: count,
-            budget: budget,
+            code: refusal.number(),
+            count,
+            budget,
         };
     }
     let w = write_of(track, target);
@@ -346,24 +312,23 @@ pub fn write_sine(
     ensures { Drawn (on_sine track (sine_for target shape low high len times) budget events.old count (length store.now)) result events.new }
 {
     let sine = OnNoteSine {
-        target: target,
-        shape: shape,
-        low: low,
-        high: high,
+        target,
+        shape,
+        low,
+        high,
         length: len,
-        times: times,
+        times,
     };
     let usable = track_ok(track) & budget_ok(budget) & sine_ok(sine);
-    let refusal = asked(target, true, usable, events, count);
-    if refusal != 0 {
+    if let Err(refusal) = asked(target, true, usable, events, count) {
         return Outcome {
-            code: refusal,
-            count: count,
-            budget: budget,
+            code: refusal.number(),
+            count,
+            budget,
         };
     }
     let w = write_of(track, target);
-    let stype = SineType::from_i(shape as i64);
+    let stype = SineType::from_i(i64::from(shape));
     writing::write_sine(
         w,
         budget,

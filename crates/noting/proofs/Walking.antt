@@ -2,6 +2,8 @@
 -- is left of the run is the run over the rest (`Walking`).
 --     begun, passed_over, wrote   the start, a list without a value, one whose write fits
 --     lost, ended                 the answers: at the first write that does not fit, and after the last list
+use Rattle.std.proofs.Common.{rules}
+use Rattle.std.specs.Prelude.{Option, Some, None}
 use mathlib.Core.Path.{◌≡◌, refl, sym, ap, ap₂, ◌∙◌}
 use mathlib.Core.Bool.{Bool, true, false, cond}
 use mathlib.Core.List.{List, [], ◌∷◌, ◌++◌, append-nil, append_assoc}
@@ -18,6 +20,7 @@ use Rattle.budget.specs.Budgets.{fits}
 use Rattle.events.specs.declared.Event.{Event}
 use Rattle.events.specs.Events.{zero_event}
 use Rattle.values.specs.declared.WriteOption.{WriteOption}
+use Rattle.values.specs.declared.Wrote.{Wrote}
 use Rattle.values.specs.Value.{wrote_of}
 use Rattle.cycles.specs.Turns.{option_of}
 use Rattle.tables.specs.declared.OnNoteValues.{OnNoteValues}
@@ -44,6 +47,30 @@ gather-more z m x d h =
 same_answer : {a a' : NoteTable} {b b' : Budget} {k k' : ℕ} {e e' : List Event} {l : Bool} → a ≡ a' → b ≡ b' → k ≡ k' → e ≡ e'
     → ◌≡◌ {A = Played} (record { notes = a; budget = b; made = k; events = e; lost = l }) (record { notes = a'; budget = b'; made = k'; events = e'; lost = l })
 same_answer p q r s = rw (p, q, r, s)
+
+-- what an event that is handed on, or none, says of the write
+module _ {o : Option Event} (t : Bool) (written : Event) where
+  none-lost : o ≡ None → o ≡ cond t (Some written) None → t ≡ false
+  none-lost h e = go t e
+    where
+      go : (t : Bool) → o ≡ cond t (Some written) None → t ≡ false
+      go true e = absurd (cc)
+      go false e = refl
+
+  module _ (event : Event) (h : o ≡ Some event) where
+    some-fits : o ≡ cond t (Some written) None → t ≡ true
+    some-fits e = go t e
+      where
+        go : (t : Bool) → o ≡ cond t (Some written) None → t ≡ true
+        go true e = refl
+        go false e = absurd (cc)
+
+    some-event : o ≡ cond t (Some written) None → event ≡ written
+    some-event e = go t e
+      where
+        go : (t : Bool) → o ≡ cond t (Some written) None → event ≡ written
+        go true e = search rules
+        go false e = absurd (cc)
 
 behind-behind : (f g : List OnNoteValues) (m k : List Event) (r : Run) → behind f m (behind g k r) ≡ behind (f ++ g) (m ++ k) r
 behind-behind f g m k r = rw (append_assoc f g r.lists, append_assoc m k r.events)
@@ -170,21 +197,24 @@ module _ (options : List WriteOption) (at : Onset) (table : NoteTable) (b₀ : B
         stepped : r ≡ step_of (option_of options x.target) at budget x
         stepped = told ∙ ap (λ (o : WriteOption). step_of o at budget x) own
 
-        fits-is : r.fits ≡ fits value_bytes budget
-        unfolding step_of wrote_at wrote_of
-        fits-is = ap (λ (y : Stepped). y.fits) stepped
+        abbrev w : Wrote
+        w = wrote_at (option_of options x.target) at budget x
 
-        budget-is : r.budget ≡ (wrote_at (option_of options x.target) at budget x).budget
+        fits-is : w.fits ≡ fits value_bytes budget
+        unfolding wrote_at wrote_of
+        fits-is = refl
+
+        budget-is : r.budget ≡ w.budget
         unfolding step_of
         budget-is = ap (λ (y : Stepped). y.budget) stepped
 
-        event-is : r.event ≡ (wrote_at (option_of options x.target) at budget x).event
+        event-is : r.event ≡ cond w.fits (Some w.event) None
         unfolding step_of
         event-is = ap (λ (y : Stepped). y.event) stepped
 
-        list-is : r.list ≡ cond r.fits (advanced x) x
+        list-is : r.list ≡ cond w.fits (advanced x) x
         unfolding step_of
-        list-is = rw stepped
+        list-is = ap (λ (y : Stepped). y.list) stepped
 
         -- the table with the list that the step leaves
         abbrev pub notes' : NoteTable
@@ -199,8 +229,9 @@ module _ (options : List WriteOption) (at : Onset) (table : NoteTable) (b₀ : B
             ap (λ (l : List OnNoteValues). v.front ++ l) (ap (drop i) (sym (take-append-drop count t)) ∙ drop-append-le i used (drop count t) h)
             ∙ sym (append_assoc v.front (drop i used) (drop count t))
 
-        pub lost : r.fits ≡ false → record { notes = notes'; budget = r.budget; made = n; events = events; lost = true } ≡ ran_of table (run options at b₀ used)
-        lost f =
+        pub lost : r.event ≡ None → record { notes = notes'; budget = r.budget; made = n; events = events; lost = true } ≡ ran_of table (run options at b₀ used)
+        lost h =
+            let f = none-lost w.fits w.event h event-is in
             let own-list : r.list ≡ x = list-is ∙ ap (λ (y : Bool). cond y (advanced x) x) f in
             let same : set notes.items i r.list ≡ notes.items = ap (λ (y : OnNoteValues). set notes.items i y) own-list ∙ set-get_or notes.items i d in
             let q : run options at b₀ used ≡ ran (v.front ++ drop i used) r.budget v.made true =
@@ -210,12 +241,14 @@ module _ (options : List WriteOption) (at : Onset) (table : NoteTable) (b₀ : B
             ∙ ap (λ (y : Budget). ran (v.front ++ drop i used) y v.made true) (sym budget-is) in
             settled (v.front ++ drop i used) v.made r.budget true notes' events n q all_left v.whole (same ∙ v.sofar ∙ parted) v.gathered v.counted
 
-        pub wrote : r.fits ≡ true → count ≤ places → Walking notes' (set events n r.event) r.budget (n + 1) (i + 1)
-        wrote f small =
+        pub wrote : (event : Event) → r.event ≡ Some event → count ≤ places → Walking notes' (set events n event) r.budget (n + 1) (i + 1)
+        wrote event h small =
+            let f = some-fits w.fits w.event event h event-is in
+            let same = some-event w.fits w.event event h event-is in
             let moved : r.list ≡ advanced x = list-is ∙ ap (λ (y : Bool). cond y (advanced x) x) f in
             record {
               front = v.front ++ (advanced x ∷ []);
-              made = v.made ++ (r.event ∷ []);
+              made = v.made ++ (event ∷ []);
               upto = omega arith;
               passed = more-passed (advanced x);
               few = rw length-append (omega (arith, v.few));
@@ -225,12 +258,12 @@ module _ (options : List WriteOption) (at : Onset) (table : NoteTable) (b₀ : B
                   ap₂ (λ (l : List OnNoteValues) (y : OnNoteValues). set l i y) v.sofar moved
                   ∙ set-behind v.front t i d v.passed (omega arith) (advanced x);
               gathered =
-                  ap₂ (λ (l : List Event) (k : ℕ). set l k r.event) v.gathered v.counted
-                  ∙ gather-more (replicate places zero_event) v.made r.event zero_event
+                  ap₂ (λ (l : List Event) (k : ℕ). set l k event) v.gathered v.counted
+                  ∙ gather-more (replicate places zero_event) v.made event zero_event
                   (omega (arith, length-replicate places zero_event, v.few));
               rest =
                   rest_at
                   ∙ ap (behind v.front v.made) (run_fits options at budget x (drop (i + 1) used) s (sym fits-is ∙ f))
                   ∙ behind-behind v.front (advanced x ∷ []) v.made ((wrote_at (option_of options x.target) at budget x).event ∷ []) (run options at (wrote_at (option_of options x.target) at budget x).budget (drop (i + 1) used))
-                  ∙ ap₂ (λ (e : Event) (y : Budget). behind (v.front ++ (advanced x ∷ [])) (v.made ++ (e ∷ [])) (run options at y (drop (i + 1) used))) (sym event-is) (sym budget-is);
+                  ∙ ap₂ (λ (e : Event) (y : Budget). behind (v.front ++ (advanced x ∷ [])) (v.made ++ (e ∷ [])) (run options at y (drop (i + 1) used))) (sym same) (sym budget-is);
             }

@@ -1,6 +1,6 @@
 -- The lists of a table at one note: in table order each that has a value writes it, "one value" at the note's start, and then
 -- stands one further. The first write that does not fit is lost and ends the run: that list and those after it stand still.
-use Rattle.std.specs.Prelude.{Bool, true, false, cond, List, [], ◌∷◌, ◌++◌, length, drop, replicate}
+use Rattle.std.specs.Prelude.{Some, None, Bool, true, false, cond, List, [], ◌∷◌, ◌++◌, length, drop, replicate}
 use Rattle.laws.specs.Lists.{without, put_first}
 use Rattle.numbers.specs.Limits.{places, value_bytes}
 use Rattle.budget.specs.declared.Budget.{Budget}
@@ -41,7 +41,7 @@ wrote_at option at b e = let w = due_at at.start e in wrote_of (asked option at.
 unfoldable pub step_of : WriteOption → Onset → Budget → OnNoteValues → Stepped
 step_of option at b e =
     let w = wrote_at option at b e in
-    record { list = cond w.fits (advanced e) e; budget = w.budget; event = w.event; fits = w.fits }
+    record { list = cond w.fits (advanced e) e; budget = w.budget; event = cond w.fits (Some w.event) None }
 
 unfoldable pub run : List WriteOption → Onset → Budget → List OnNoteValues → Run
 run options at b [] = ran [] b [] false

@@ -18,13 +18,13 @@ ghost use Rattle.laws.specs.Lists.{without};
 ghost use Rattle.noting.specs.Lists.{silent, place_of, value_of, advanced, spent};
 ghost use Rattle.noting.specs.Runs.{wrote_at, step_of, run, ran_of, played_of, notes_put};
 ghost use Rattle.noting.specs.Calls.{noted, list_left};
-ghost use Rattle.noting.specs.Listed.{listed_of};
+ghost use Rattle.noting.specs.Listed.{noted_by};
 
 use budget::{Budget, budget_ok};
 use cycles::{PLACES, key_of};
 use eventlist::{WIDTH, list_ok};
 use events::{Event, zero_event};
-use numbers::is_time;
+use numbers::{Refusal, ask, is_time};
 use state::{OPTIONS, Track, track_ok};
 use tables::{NoteTable, OnNoteValues, Reservation};
 use values::{Offer, Write, WriteOption, Wrote};
@@ -36,13 +36,12 @@ pub struct Onset {
     pub channel: i32,
 }
 
-// What one list's write leaves: the list, the budget, the event and whether it fits.
+// What one list's write leaves: the list, the budget, and the event if it fits.
 #[derive(Clone, Copy)]
 pub struct Stepped {
     pub list: OnNoteValues,
     pub budget: Budget,
-    pub event: Event,
-    pub fits: bool,
+    pub event: Option<Event>,
 }
 
 // What a table's lists leave at a note: the table, the budget, the first `made` of `events`, and whether a write was lost.
@@ -65,29 +64,28 @@ pub struct Noted {
     pub track: Track,
 }
 
-// The same with the track's lists alone.
+// What a call that is not refused leaves, of the track its lists alone.
 #[derive(Clone, Copy)]
 pub struct Listed {
-    pub code: u32,
     pub count: usize,
     pub budget: Budget,
     pub notes: NoteTable,
 }
 
 // Whether a list has no value for this note: it is empty, or at its end and does not go round.
+#[tactic(auto, unfolding(crate::specs::Lists::silent, crate::specs::Lists::spent))]
 fn is_silent(e: OnNoteValues) -> bool
     ensures { result ≡ silent e }
 {
-    let count = e.values.count;
-    (count == 0) | ((count <= e.index) & (e.cycling == 0))
+    (e.values.count == 0) | is_spent(e)
 }
 
 // Whether a list is to be taken out after a note: it is at its end and does not go round.
+#[tactic(auto, unfolding(crate::specs::Lists::spent))]
 fn is_spent(e: OnNoteValues) -> bool
     ensures { result ≡ spent e }
 {
-    let count = e.values.count;
-    (count <= e.index) & (e.cycling == 0)
+    (e.values.count <= e.index) & (e.cycling == 0)
 }
 
 // Where a list's value for this note stands: at its end it begins again.
@@ -95,9 +93,10 @@ fn place_of(e: OnNoteValues) -> usize
     ensures { result ≡ place_of e }
 {
     if e.values.count <= e.index {
-        return 0;
+        0
+    } else {
+        e.index
     }
-    e.index
 }
 
 // The list one further.
@@ -105,8 +104,7 @@ fn advance(mut e: OnNoteValues) -> OnNoteValues
     requires { ok_values e ≡ true }
     ensures { result ≡ advanced e }
 {
-    let p = place_of(e);
-    e.index = p + 1;
+    e.index = place_of(e) + 1;
     e
 }
 
@@ -115,9 +113,7 @@ fn value_of(e: OnNoteValues) -> i32
     requires { (ok_values e ≡ true) × (silent e ≡ false) }
     ensures { (result ≡ value_of e) × (mag result ≤ 2 ^ 22) }
 {
-    let p = place_of(e);
-    let values = e.values;
-    values.items[p]
+    e.values.items[place_of(e)]
 }
 
 // The list's value as one value at the note's start.
@@ -125,19 +121,18 @@ fn offer_value(e: OnNoteValues, option: WriteOption, at: Onset, b: Budget) -> Wr
     requires { (ok_values e ≡ true) × (silent e ≡ false) × (is_time at.start ≡ true) }
     ensures { result ≡ wrote_at option at b e }
 {
-    let value = values::widened(value_of(e));
-    let w = Write {
+    let write = Write {
         target: e.target,
         channel: at.channel,
         time: at.start,
         freq: 1,
-        option: option,
+        option,
     };
-    let o = Offer {
+    let offer = Offer {
         step: 0,
-        value: value,
+        value: i64::from(value_of(e)),
     };
-    values::one_value(w, b, o)
+    values::one_value(write, b, offer)
 }
 
 // One list that has a value: where the write fits, the list is one further.
@@ -146,23 +141,18 @@ fn step(e: OnNoteValues, option: WriteOption, at: Onset, b: Budget) -> Stepped
     ensures { result ≡ step_of option at b e }
 {
     let w = offer_value(e, option, at, b);
-    let moved = advance(e);
-    let event = w.event;
     if w.fits {
-        let paid = w.budget;
-        return Stepped {
-            list: moved,
-            budget: paid,
-            event: event,
-            fits: true,
-        };
-    }
-    let asked = w.budget;
-    Stepped {
-        list: e,
-        budget: asked,
-        event: event,
-        fits: false,
+        Stepped {
+            list: advance(e),
+            budget: w.budget,
+            event: Some(w.event),
+        }
+    } else {
+        Stepped {
+            list: e,
+            budget: w.budget,
+            event: None,
+        }
     }
 }
 
@@ -171,43 +161,38 @@ fn run_notes(table: NoteTable, options: [WriteOption; OPTIONS], at: Onset, b: Bu
     requires { (ok_notes table ≡ true) × (is_time at.start ≡ true) }
     ensures { result ≡ ran_of table (run options at b (take table.count table.items)) }
 {
-    let count = table.count;
-    let none = zero_event();
     let mut notes = table;
-    let mut events = [none; PLACES];
+    let mut events = [zero_event(); PLACES];
     let mut budget = b;
-    let mut n: usize = 0;
-    let mut i: usize = 0;
-    while i < count {
+    let mut made: usize = 0;
+    for i in 0..table.count {
         let e = notes.items[i];
-        if is_silent(e) {
-            i += 1;
-        } else {
-            let k = key_of(e.target);
-            let s = step(e, options[k], at, budget);
-            let list = s.list;
-            notes.items[i] = list;
+        if !is_silent(e) {
+            let s = step(e, options[key_of(e.target)], at, budget);
             budget = s.budget;
-            if !s.fits {
-                return Played {
-                    notes: notes,
-                    budget: budget,
-                    made: n,
-                    events: events,
-                    lost: true,
-                };
+            notes.items[i] = s.list;
+            match s.event {
+                Some(event) => {
+                    events[made] = event;
+                    made += 1;
+                }
+                None => {
+                    return Played {
+                        notes,
+                        budget,
+                        made,
+                        events,
+                        lost: true,
+                    };
+                }
             }
-            let event = s.event;
-            events[n] = event;
-            n += 1;
-            i += 1;
         }
     }
     Played {
-        notes: notes,
-        budget: budget,
-        made: n,
-        events: events,
+        notes,
+        budget,
+        made,
+        events,
         lost: false,
     }
 }
@@ -217,20 +202,15 @@ fn keep_unspent(table: NoteTable) -> NoteTable
     requires { table.count ≤ places }
     ensures { result ≡ notes_put table (without spent (take table.count table.items)) }
 {
-    let count = table.count;
     let none = OnNoteValues::blank();
     let mut notes = table;
     let mut n: usize = 0;
-    let mut i: usize = 0;
-    while i < count {
+    for i in 0..table.count {
         let e = notes.items[i];
         notes.items[i] = none;
-        if is_spent(e) {
-            i += 1;
-        } else {
+        if !is_spent(e) {
             notes.items[n] = e;
             n += 1;
-            i += 1;
         }
     }
     notes.count = n;
@@ -243,10 +223,9 @@ fn play_notes(table: NoteTable, options: [WriteOption; OPTIONS], at: Onset, b: B
     ensures { result ≡ played_of table (run options at b (take table.count table.items)) }
 {
     let mut r = run_notes(table, options, at, b);
-    if r.lost {
-        return r;
+    if !r.lost {
+        r.notes = keep_unspent(r.notes);
     }
-    r.notes = keep_unspent(r.notes);
     r
 }
 
@@ -257,17 +236,14 @@ fn append_all(events: &mut [i64], count: usize, made: usize, new: [Event; PLACES
         × (rows_of events.new ≡ put_first zero_event count (events_of events.old count ++ take made new) (rows_of events.old)) }
 {
     let mut n = count;
-    let mut i: usize = 0;
-    while i < made {
-        let e = new[i];
-        n = eventlist::append(events, n, e);
-        i += 1;
+    for i in 0..made {
+        n = eventlist::append(events, n, new[i]);
     }
     n
 }
 
-// The call without the track, whose test `ok` answers: what it says of everything else. The track is not handed back, so that the
-// compiled code does not copy it for each refusal.
+// The call without the track, whose test `ok` answers: what it says of everything else, or why it refuses. The track is not handed
+// back, so that the compiled code does not copy it for each refusal.
 fn write_lists(
     track: Track,
     ok: bool,
@@ -275,52 +251,24 @@ fn write_lists(
     budget: Budget,
     events: &mut [i64],
     count: usize,
-) -> Listed
+) -> Result<Listed, Refusal>
     requires { ok ≡ ok_track track }
-    ensures { (result ≡ listed_of (noted track start budget events.old count))
+    ensures { (noted_by track budget count result ≡ noted track start budget events.old count)
         × (events.new ≡ list_left track start budget events.old count) }
 {
-    let given = track.notes;
-    if !list_ok(events, count) {
-        return Listed {
-            code: 1,
-            count: count,
-            budget: budget,
-            notes: given,
-        };
-    }
-    if !(is_time(start) & ok & budget_ok(budget)) {
-        return Listed {
-            code: 4,
-            count: count,
-            budget: budget,
-            notes: given,
-        };
-    }
-    let options = track.options;
+    ask(list_ok(events, count), Refusal::NotAList)?;
+    ask(is_time(start) & ok & budget_ok(budget), Refusal::OutOfRange)?;
     let at = Onset {
-        start: start,
+        start,
         channel: track.channel,
     };
-    let r = play_notes(given, options, at, budget);
-    if events.len() / WIDTH - count < r.made {
-        return Listed {
-            code: 7,
-            count: count,
-            budget: budget,
-            notes: given,
-        };
-    }
-    let new = r.events;
-    let n = append_all(events, count, r.made, new);
-    let after = r.budget;
-    let notes = r.notes;
-    Listed {
-        code: 0,
-        count: n,
-        budget: after,
-        notes: notes,
-    }
+    let played = play_notes(track.notes, track.options, at, budget);
+    ask(played.made <= events.len() / WIDTH - count, Refusal::NoRoom)?;
+    Ok(Listed {
+        count: append_all(events, count, played.made, played.events),
+        budget: played.budget,
+        notes: played.notes,
+    })
 }
 
 // Writes what a track's lists have for a note that starts at `start`: the events stand behind the list's own, and each
@@ -338,14 +286,21 @@ pub fn write_cc_on_note(
         × (events.new ≡ list_left track start budget events.old count) }
 {
     let ok = track_ok(track);
-    let w = write_lists(track, ok, start, budget, events, count);
-    let notes = w.notes;
-    track.notes = notes;
-    let paid = w.budget;
-    Noted {
-        code: w.code,
-        count: w.count,
-        budget: paid,
-        track: track,
+    match write_lists(track, ok, start, budget, events, count) {
+        Ok(left) => {
+            track.notes = left.notes;
+            Noted {
+                code: 0,
+                count: left.count,
+                budget: left.budget,
+                track,
+            }
+        }
+        Err(refusal) => Noted {
+            code: refusal.number(),
+            count,
+            budget,
+            track,
+        },
     }
 }

@@ -1,3 +1,5 @@
+pub mod Chains
+pub mod Told
 pub mod Answers
 pub mod Counts
 pub mod Parts

@@ -14,7 +14,7 @@ ghost use Rattle.state.specs.Calls.{on_channel, new_of, set_timepos, set_channel
 pub use cycles::OPTIONS;
 use cycles::{Cycle, PLACES};
 use layers::{Layers, layer_ok, layers_ok};
-use numbers::{channel_ok, is_length, is_number, is_time, is_timebase};
+use numbers::{Refusal, ask, channel_ok, code_of, is_length, is_number, is_time, is_timebase};
 use params::{NoteParam, param_ok};
 use tables::{
     CycleTable, NoteTable, OnNoteSine, OnNoteValues, OnNoteWave, Reservation, SineTable, WaveTable,
@@ -99,7 +99,8 @@ pub fn no_cycles() -> CycleTable
     }
 }
 
-// Whether the numbers that stand in a track alone are in their ranges.
+// Whether the numbers that stand in a track alone are in their ranges. It is handed the numbers, and `params_ok` the parameters: the
+// track itself would be copied once more.
 fn play_ok(
     timebase: i32,
     timepos: i64,
@@ -114,29 +115,23 @@ fn play_ok(
 ) -> bool
     ensures { result ≡ playable timebase timepos channel ccfreq pbfreq velocity timing octave qlen step }
 {
-    let a = is_timebase(timebase);
-    let b = is_time(timepos);
-    let c = channel_ok(channel);
-    let d = is_length(ccfreq);
-    let e = is_length(pbfreq);
-    let f = is_number(velocity);
-    let g = is_number(timing);
-    let h = is_number(octave);
-    let i = is_number(qlen);
-    let j = step <= 1;
-    a & b & c & d & e & f & g & h & i & j
+    is_timebase(timebase)
+        & is_time(timepos)
+        & channel_ok(channel)
+        & is_length(ccfreq)
+        & is_length(pbfreq)
+        & is_number(velocity)
+        & is_number(timing)
+        & is_number(octave)
+        & is_number(qlen)
+        & (step <= 1)
 }
 
 #[tactic(auto, unfolding(crate::specs::Tests::ok_params))]
 fn params_ok(v: NoteParam, q: NoteParam, t: NoteParam, o: NoteParam, l: NoteParam) -> bool
     ensures { result ≡ ok_params v q t o l }
 {
-    let a = param_ok(v);
-    let b = param_ok(q);
-    let c = param_ok(t);
-    let d = param_ok(o);
-    let e = param_ok(l);
-    a & b & c & d & e
+    param_ok(v) & param_ok(q) & param_ok(t) & param_ok(o) & param_ok(l)
 }
 
 // The test of layers of which one counts.
@@ -144,36 +139,27 @@ fn one_layer_ok(layers: Layers) -> bool
     requires { layers.count ≡ 1 }
     ensures { result ≡ ok_layers layers }
 {
-    let layer = layers.items[0];
-    layer_ok(layer)
+    layer_ok(layers.items[0])
 }
 
 // Whether there are 1 to 16 layers, every number of which is in its range. Most tracks have one, which is read from its place: the
-// compiled code then copies no other.
+// compiled code then copies no other. They are a local first, as the options are in `track_ok`.
 fn own_layers_ok(track: Track) -> bool
     ensures { result ≡ ok_layers track.layers }
 {
-    let n = track.layers.count;
-    if n == 1 {
+    if track.layers.count == 1 {
         let one = track.layers;
-        return one_layer_ok(one);
+        one_layer_ok(one)
+    } else {
+        let layers = track.layers;
+        layers_ok(layers)
     }
-    let layers = track.layers;
-    layers_ok(layers)
 }
 
 fn options_ok(options: [WriteOption; OPTIONS]) -> bool
     ensures { result ≡ ok_options options }
 {
-    let mut i: usize = 0;
-    while i < OPTIONS {
-        let option = options[i];
-        if !option_ok(option) {
-            return false;
-        }
-        i += 1;
-    }
-    true
+    options.iter().all(|option| option_ok(*option))
 }
 
 // Whether the tables may be stored, and no target has two reservations in them; cycles are not asked here.
@@ -190,7 +176,7 @@ pub fn track_ok(track: Track) -> bool
     ensures { result ≡ ok_track track }
 {
     let options = track.options;
-    let a = play_ok(
+    play_ok(
         track.timebase,
         track.timepos,
         track.channel,
@@ -201,13 +187,11 @@ pub fn track_ok(track: Track) -> bool
         track.octave,
         track.qlen,
         track.step,
-    );
-    let b = params_ok(track.v, track.q, track.t, track.o, track.l);
-    let c = own_layers_ok(track);
-    let d = options_ok(options);
-    let e = tables_ok(track.notes, track.waves, track.sines);
-    let f = track.cycles <= PLACES;
-    a & b & c & d & e & f
+    ) & params_ok(track.v, track.q, track.t, track.o, track.l)
+        & own_layers_ok(track)
+        & options_ok(options)
+        & tables_ok(track.notes, track.waves, track.sines)
+        & (track.cycles <= PLACES)
 }
 
 // A track's cycles: of the sixteen records that are lent, as many as the track counts.
@@ -227,23 +211,14 @@ pub fn lent_alone(notes: NoteTable, waves: WaveTable, sines: SineTable, own: Cyc
     requires { (notes.count ≤ places) × (waves.count ≤ places) × (sines.count ≤ places) }
     ensures { result ≡ ok_cycles own && lone notes waves sines own }
 {
-    if !own.is_ok() {
-        return false;
-    }
-    lone_ok(notes, waves, sines, own)
+    own.is_ok() && lone_ok(notes, waves, sines, own)
 }
 
 // A channel for a new track: 0 to 15, whatever is asked.
 fn clamped(channel: i32) -> i32
     ensures { result ≡ on_channel channel }
 {
-    if channel < 0 {
-        return 0;
-    }
-    if 15 < channel {
-        return 15;
-    }
-    channel
+    channel.clamp(0, 15)
 }
 
 // A track at time 0 with nothing set.
@@ -252,15 +227,10 @@ fn blank(timebase: i32, channel: i32) -> Track
     ensures { result ≡ new_track timebase channel }
 {
     let param = NoteParam::new();
-    let layers = Layers::new();
-    let option = WriteOption::new();
-    let notes = no_notes();
-    let waves = no_waves();
-    let sines = no_sines();
     Track {
-        timebase: timebase,
+        timebase,
         timepos: 0,
-        channel: channel,
+        channel,
         ccfreq: 4,
         pbfreq: 0,
         velocity: 100,
@@ -273,11 +243,11 @@ fn blank(timebase: i32, channel: i32) -> Track
         t: param,
         o: param,
         l: param,
-        layers: layers,
-        options: [option; OPTIONS],
-        notes: notes,
-        waves: waves,
-        sines: sines,
+        layers: Layers::new(),
+        options: [WriteOption::new(); OPTIONS],
+        notes: no_notes(),
+        waves: no_waves(),
+        sines: no_sines(),
         cycles: 0,
     }
 }
@@ -288,18 +258,16 @@ impl Track {
     pub fn new(timebase: i32, channel: i32) -> TrackAnswer
         ensures { result ≡ new_of timebase channel }
     {
-        if !is_timebase(timebase) {
-            let track = blank(0, 0);
-            return TrackAnswer {
-                code: 4,
-                track: track,
-            };
-        }
-        let on = clamped(channel);
-        let track = blank(timebase, on);
-        TrackAnswer {
-            code: 0,
-            track: track,
+        if is_timebase(timebase) {
+            TrackAnswer {
+                code: 0,
+                track: blank(timebase, clamped(channel)),
+            }
+        } else {
+            TrackAnswer {
+                code: Refusal::OutOfRange.number(),
+                track: blank(0, 0),
+            }
         }
     }
 }
@@ -308,18 +276,13 @@ impl Track {
 pub fn set_timepos(mut track: Track, timepos: i64) -> TrackAnswer
     ensures { result ≡ set_timepos track timepos }
 {
-    let a = track_ok(track);
-    let b = is_time(timepos);
-    if !(a & b) {
-        return TrackAnswer {
-            code: 4,
-            track: track,
-        };
+    let asked = ask(track_ok(track) & is_time(timepos), Refusal::OutOfRange);
+    if asked.is_ok() {
+        track.timepos = timepos;
     }
-    track.timepos = timepos;
     TrackAnswer {
-        code: 0,
-        track: track,
+        code: code_of(asked),
+        track,
     }
 }
 
@@ -327,18 +290,13 @@ pub fn set_timepos(mut track: Track, timepos: i64) -> TrackAnswer
 pub fn set_channel(mut track: Track, channel: i32) -> TrackAnswer
     ensures { result ≡ set_channel track channel }
 {
-    let a = track_ok(track);
-    let b = channel_ok(channel);
-    if !(a & b) {
-        return TrackAnswer {
-            code: 4,
-            track: track,
-        };
+    let asked = ask(track_ok(track) & channel_ok(channel), Refusal::OutOfRange);
+    if asked.is_ok() {
+        track.channel = channel;
     }
-    track.channel = channel;
     TrackAnswer {
-        code: 0,
-        track: track,
+        code: code_of(asked),
+        track,
     }
 }
 
@@ -346,18 +304,13 @@ pub fn set_channel(mut track: Track, channel: i32) -> TrackAnswer
 pub fn set_cc_on_time_freq(mut track: Track, freq: i32) -> TrackAnswer
     ensures { result ≡ set_cc_freq track freq }
 {
-    let a = track_ok(track);
-    let b = is_length(freq);
-    if !(a & b) {
-        return TrackAnswer {
-            code: 4,
-            track: track,
-        };
+    let asked = ask(track_ok(track) & is_length(freq), Refusal::OutOfRange);
+    if asked.is_ok() {
+        track.ccfreq = freq;
     }
-    track.ccfreq = freq;
     TrackAnswer {
-        code: 0,
-        track: track,
+        code: code_of(asked),
+        track,
     }
 }
 
@@ -365,17 +318,12 @@ pub fn set_cc_on_time_freq(mut track: Track, freq: i32) -> TrackAnswer
 pub fn set_pb_on_time_freq(mut track: Track, freq: i32) -> TrackAnswer
     ensures { result ≡ set_pb_freq track freq }
 {
-    let a = track_ok(track);
-    let b = is_length(freq);
-    if !(a & b) {
-        return TrackAnswer {
-            code: 4,
-            track: track,
-        };
+    let asked = ask(track_ok(track) & is_length(freq), Refusal::OutOfRange);
+    if asked.is_ok() {
+        track.pbfreq = freq;
     }
-    track.pbfreq = freq;
     TrackAnswer {
-        code: 0,
-        track: track,
+        code: code_of(asked),
+        track,
     }
 }

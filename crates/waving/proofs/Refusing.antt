@@ -1,5 +1,5 @@
 -- The answers of `write_cc_on_note_wave`, read off its tests in their order.
-use mathlib.Core.Path.{◌≡◌, refl}
+use mathlib.Core.Path.{◌≡◌, refl, sym}
 use mathlib.Core.Bool.{Bool, true, false, cond, ◌&&◌}
 use mathlib.Core.List.{List}
 use Prim.Native.Nat.{ℕ, ◌≤◌, ◌^◌}
@@ -21,6 +21,7 @@ use Rattle.eventlist.proofs.EventRows.{flat-rows_of}
 use Rattle.state.specs.declared.Track.{Track}
 use Rattle.state.specs.Tests.{ok_track}
 use Rattle.waving.specs.Calls.{Stand, answer_of, rows_left, room_refusal, after_note, note_refusal}
+use Rattle.drawing.specs.Calls.{in_order}
 use Rattle.waving.specs.Passes.{unstored}
 
 -- a budget that passes its test
@@ -43,6 +44,16 @@ module _ (store : ℕ) (a : Track) (start : ℤ) (b : Budget) (l : List ℤ) (co
         → note_refusal store a start b l count ≡ cond (ok_events store l count) (room_refusal (after_note a start b (events_of l count)) (rows_of l)) 4
     unfolding note_refusal
     numbers-well e = rw (list, e)
+
+  -- what is asked before the records decides where it refuses
+  pub refused-first : {n : ℕ} → n ≡ in_order (is_list l count) true true (is_time start && ok_track a && ok_budget b) 0 → (n ≡ 0 → ⊥) → note_refusal store a start b l count ≡ n
+  unfolding note_refusal in_order
+  refused-first {n} e h = go (is_list l count) (is_time start && ok_track a && ok_budget b) (ok_events store l count) (room_refusal (after_note a start b (events_of l count)) (rows_of l)) e
+    where
+      go : (p q r : Bool) (k : ℕ) → n ≡ in_order p true true q 0 → cond p (cond (q && r) k 4) 1 ≡ n
+      go true true r k e = absurd (h e)
+      go true false r k e = sym e
+      go false q r k e = sym e
 
 -- 4 where the records t fail, and else as n says
 pub answer-tested : (t : Bool) (n count : ℕ) (b : Budget) (s : Stand) → cond t (answer_of n count b s) (unstored count b) ≡ answer_of (cond t n 4) count b s

@@ -10,15 +10,17 @@ ghost use Rattle.laws.specs.Integers.{cut};
 ghost use Rattle.budget.specs.declared.Budget.{Budget};
 ghost use Rattle.budget.specs.Budgets.{step_budget};
 ghost use Rattle.numbers.specs.Limits.{list_limit};
+ghost use Rattle.numbers.specs.Refusals.{told};
 ghost use Rattle.counted.specs.Numbers.{shown};
 ghost use Rattle.sines.specs.Table.{quarter_table};
 ghost use Rattle.eventlist.specs.Rows.{rows_of};
-ghost use Rattle.eventlist.specs.Sound.{ok_events};
+ghost use Rattle.eventlist.specs.Sound.{is_list, ok_events};
 ghost use Rattle.offers.specs.Walks.{append};
 ghost use Rattle.offers.specs.Waves.{triples};
 ghost use Rattle.offers.specs.Sources.{Fine};
 ghost use Rattle.tables.specs.Reservations.{ok_wave, ok_sine};
 ghost use Rattle.state.specs.Tests.{ok_track};
+ghost use Rattle.drawing.specs.Calls.{in_order};
 ghost use Rattle.writing.specs.Origins.{pieces_of};
 ghost use Rattle.writing.specs.Waves.{cut_by, wave_triples};
 ghost use Rattle.writing.specs.Figures.{added_to, Shaped};
@@ -30,7 +32,7 @@ use budget::{Budget, budget_ok};
 use counted::Numbers;
 use drawing::write_of;
 use eventlist::{Window, clear_windows, list_ok, survey};
-use numbers::is_time;
+use numbers::{Refusal, ask, is_time};
 use offers::Mode;
 use sines::SineType;
 use state::{Track, track_ok};
@@ -82,9 +84,7 @@ fn list_figure(b: Budget, mode: Mode, list: Numbers, n: u64) -> Figure
     ensures { Shaped result (triples (shown list)) × (pieces_of (triples (shown list)) result.origin ≡ wave_triples b mode (triples (shown list)) n)
         × (result.cut ≡ cut_by mode n (step_budget b)) }
 {
-    let items = list.items;
-    let k = list.count;
-    writing::wave_figure(b, mode, &items[..k], n)
+    writing::wave_figure(b, mode, &list.items[..list.count], n)
 }
 
 // A wave for a note of `n` steps.
@@ -92,14 +92,10 @@ fn wave_draft(track: Track, n: u64, b: Budget, e: OnNoteWave) -> Draft
     requires { (ok_track track ≡ true) × (ok_wave e ≡ true) × (b.maximum ≤ 2 ^ 26) }
     ensures { Drafts result (wave_drawing track n e) b }
 {
-    let write = write_of(track, e.target);
-    let mode = mode_of(e.mode);
-    let list = e.values;
-    let figure = list_figure(b, mode, list, n);
     Draft {
-        write: write,
-        figure: figure,
-        numbers: list,
+        write: write_of(track, e.target),
+        figure: list_figure(b, mode_of(e.mode), e.values, n),
+        numbers: e.values,
     }
 }
 
@@ -108,12 +104,10 @@ fn sine_draft(track: Track, e: OnNoteSine) -> Draft
     requires { (ok_track track ≡ true) × (ok_sine e ≡ true) }
     ensures { (b : Budget) → Drafts result (sine_drawing track e) b }
 {
-    let write = write_of(track, e.target);
-    let stype = SineType::from_i(e.shape as i64);
-    let figure = writing::sine_figure(stype, e.low, e.high, e.length, e.times);
+    let stype = SineType::from_i(i64::from(e.shape));
     Draft {
-        write: write,
-        figure: figure,
+        write: write_of(track, e.target),
+        figure: writing::sine_figure(stype, e.low, e.high, e.length, e.times),
         numbers: counted::empty(),
     }
 }
@@ -123,16 +117,12 @@ fn draft_at(track: Track, n: u64, b: Budget, i: usize) -> Draft
     requires { Held track × (i < track.waves.count + track.sines.count) × (b.maximum ≤ 2 ^ 26) }
     ensures { Drafts result (drawing_at track n i) b }
 {
-    let waves = track.waves;
-    let count = waves.count;
+    let count = track.waves.count;
     if i < count {
-        let e = waves.items[i];
-        return wave_draft(track, n, b, e);
+        wave_draft(track, n, b, track.waves.items[i])
+    } else {
+        sine_draft(track, track.sines.items[i - count])
     }
-    let sines = track.sines;
-    let k = i - count;
-    let e = sines.items[k];
-    sine_draft(track, e)
 }
 
 // The budget that a draft leaves, with nothing written.
@@ -140,11 +130,13 @@ fn foresee_draft(d: Draft, b: Budget, quarter: &[u32; 1025]) -> Budget
     requires { Drawable d × (quarter.now ≡ quarter_table) }
     ensures { result ≡ budget_of d b }
 {
-    let list = d.numbers;
-    let items = list.items;
-    let k = list.count;
-    let figure = d.figure;
-    writing::foresee(d.write, b, figure, &items[..k], quarter)
+    writing::foresee(
+        d.write,
+        b,
+        d.figure,
+        &d.numbers.items[..d.numbers.count],
+        quarter,
+    )
 }
 
 // Puts a draft's events, for which there is room, behind the first `count`.
@@ -158,14 +150,12 @@ fn add_draft(
     requires { Drawable d × (quarter.now ≡ quarter_table) × (count + length (events_in d b) ≤ length (rows_of events.old)) }
     ensures { (result ≡ added_to count (events_in d b) (budget_of d b)) × (rows_of events.new ≡ append (rows_of events.old) count (events_in d b)) }
 {
-    let list = d.numbers;
-    let items = list.items;
-    let k = list.count;
-    let figure = d.figure;
-    writing::add_figure(d.write, b, figure, &items[..k], events, count, quarter)
+    let numbers = &d.numbers.items[..d.numbers.count];
+    writing::add_figure(d.write, b, d.figure, numbers, events, count, quarter)
 }
 
-// The plan of a call: goes over the waves and sines until the flag is set, with nothing written.
+// The plan of a call: goes over the waves and sines until the flag is set, with nothing written. The loop has two ends, here and in
+// `add_all`: a `for` would say the second by a `break`.
 fn plan_of(track: Track, n: u64, b: Budget, quarter: &[u32; 1025]) -> Plan
     requires { Held track × (b.maximum ≤ 2 ^ 26) × (quarter.now ≡ quarter_table) }
     ensures { Plans result (passes (drawings_of track n) b) }
@@ -176,8 +166,7 @@ fn plan_of(track: Track, n: u64, b: Budget, quarter: &[u32; 1025]) -> Plan
     let mut i: usize = 0;
     while (i < total) & (rest.over == 0) {
         let d = draft_at(track, n, rest, i);
-        let figure = d.figure;
-        windows[i] = writing::figure_window(d.write, figure);
+        windows[i] = writing::figure_window(d.write, d.figure);
         rest = foresee_draft(d, rest, quarter);
         i += 1;
     }
@@ -250,13 +239,22 @@ fn write_all(
     let kept = count - seen.taken;
     if events.len() / 8 - kept < plan.added {
         return Outcome {
-            code: 7,
-            count: count,
+            code: Refusal::NoRoom.number(),
+            count,
             budget: b,
         };
     }
     let cleared = clear_windows(events, count, windows, seen);
     add_all(track, n, b, events, cleared.left, &quarter)
+}
+
+// What a call asks before its events are looked at: the list, and the numbers, of which `usable` speaks for all but the events'.
+#[tactic(auto, unfolding(drawing::specs::Calls::in_order))]
+fn asked(usable: bool, events: &[i64], count: usize) -> Result<(), Refusal>
+    ensures { told result ≡ in_order (is_list events.now count) true true usable 0 }
+{
+    ask(list_ok(events, count), Refusal::NotAList)?;
+    ask(usable, Refusal::OutOfRange)
 }
 
 // Writes the waves and then the sines that are reserved for the track's notes, over a note from `start` to the track's time;
@@ -273,21 +271,12 @@ pub fn write_cc_on_note_wave(
     ensures { (result ≡ note_written (length store.now) track start budget events.old count)
         × (events.new ≡ note_left (length store.now) track start budget events.old count) }
 {
-    if !list_ok(events, count) {
+    let usable = is_time(start) & track_ok(track) & budget_ok(budget);
+    if let Err(refusal) = asked(usable, events, count) {
         return Outcome {
-            code: 1,
-            count: count,
-            budget: budget,
-        };
-    }
-    let a = is_time(start);
-    let b = track_ok(track);
-    let c = budget_ok(budget);
-    if !(a & b & c) {
-        return Outcome {
-            code: 4,
-            count: count,
-            budget: budget,
+            code: refusal.number(),
+            count,
+            budget,
         };
     }
     let n = offers::length_of(track.timepos - start);

@@ -17,17 +17,12 @@ module _ (freq timebase : ℤ) (n : ℕ) where
   unfolding bend_freq
   own e h = rw (← e, ne_eqb n 0 h)
 
-asked : (c : goal.After-at_least_one) → c.steps_of-own.result ≡ cut c.args.freq
-asked c = c.steps_of-own.ensures ∙ ap cut (to_z-of_z c.ranges.freq)
-
-asked-at-2 : (c : goal.Else-own-eq0) → c.steps_of-own.result ≡ cut c.args.freq
-asked-at-2 c = c.steps_of-own.ensures ∙ ap cut (to_z-of_z c.ranges.freq)
-
 pub returns-then-own-eq0 : goal.returns-then-own-eq0
 returns-then-own-eq0 c =
+    let e = c.steps_of-own.ensures ∙ ap cut (to_z-of_z c.ranges.freq) in
     c.at_least_one.ensures
-    ∙ of-timebase c.args.freq c.args.timebase c.steps_of-beat.result (sym (asked c) ∙ c.if-own-eq0.true) (c.steps_of-beat.ensures ∙ ap cut (to_z-of_z c.ranges.timebase))
+    ∙ of-timebase c.args.freq c.args.timebase c.steps_of.result (sym e ∙ c.if-own-eq0.true) (c.steps_of.ensures ∙ ap cut (to_z-of_z c.ranges.timebase))
 
-pub returns : goal.returns
-returns c =
-    own c.args.freq c.args.timebase c.steps_of-own.result (asked-at-2 c) c.if-own-eq0.false
+pub returns-else-own-eq0 : goal.returns-else-own-eq0
+returns-else-own-eq0 c =
+    own c.args.freq c.args.timebase c.steps_of-own.result (c.steps_of-own.ensures ∙ ap cut (to_z-of_z c.ranges.freq)) c.if-own-eq0.false

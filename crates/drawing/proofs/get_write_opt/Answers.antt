@@ -1,32 +1,28 @@
--- `get_write_opt`: the tests in their order, then the option.
-use mathlib.Core.Path.{◌≡◌, sym}
-use mir.Syntax.{w32}
-use mir.Facts.{to_z-of_z}
-use mathlib.Core.Bool.{true, false}
-use Rattle.drawing.specs.Options.{option_for}
-use Rattle.laws.proofs.Tests.{is_at}
-use Rattle.numbers.specs.Ranges.{is_target}
-use Rattle.drawing.proofs.Refusing.{no_target, no_number, well, with-true}
+-- `get_write_opt`: what was asked, and then the option.
+use Rattle.std.proofs.Common.{◌≡◌, sym, ap, ◌∙◌, to_z-of_z}
+use borrow.Author.Tests.{ne_eqb}
+use Rattle.numbers.specs.Refusals.{number_of, told}
+use Rattle.state.proofs.Told.{some-number}
+use Rattle.drawing.specs.Options.{for_target, target_refusal, option_for}
+use Rattle.drawing.proofs.Refusing.{with-true}
+use Rattle.drawing.proofs.get_write_opt.Goals.{After-ask_target}
 use Rattle.drawing.proofs.get_write_opt.Goals as goal
+use mathlib.Core.Bool.{true}
 
-pub returns-then-not-is_target : goal.returns-then-not-is_target
-unfolding option_for
-returns-then-not-is_target c =
-    let t : is_target c.args.target ≡ false = sym (is_at w32 {z = c.args.target} is_target c.ranges.target.sfits c.if-not-is_target.ensures) in
-    rw (c.new-none.ensures, no_target c.args.track c.args.target true t)
+asked : (c : After-ask_target) → told c.ask_target.result ≡ target_refusal c.args.track c.args.target true
+unfolding target_refusal
+asked c =
+    (rw (to_z-of_z c.ranges.target) at c.ask_target.ensures)
+    ∙ ap (for_target c.args.target) (sym (with-true (sym c.track_ok.ensures)))
 
-pub returns-then-not-track_ok : goal.returns-then-not-track_ok
+pub returns-in-Ok : goal.returns-in-Ok
 unfolding option_for
-returns-then-not-track_ok c =
-    let t : is_target c.args.target ≡ true = sym (is_at w32 {z = c.args.target} is_target c.ranges.target.sfits c.if-not-is_target.ensures) in
-    rw (c.new-none.ensures, no_number c.args.track c.args.target true t (with-true (sym c.if-not-track_ok.ensures)))
+returns-in-Ok c =
+    let n = sym (asked (goal.at.returns-in-Ok c).After-ask_target) ∙ ap told c.in-Ok.is in
+    rw (c.option_of.ensures, to_z-of_z c.ranges.target, n)
 
-pub returns : goal.returns
+pub returns-in-Err : goal.returns-in-Err
 unfolding option_for
-returns c =
-    let t : is_target c.args.target ≡ true = sym (is_at w32 {z = c.args.target} is_target c.ranges.target.sfits c.if-not-is_target.ensures) in
-    rw (
-      c.option_of-option.ensures,
-      to_z-of_z c.ranges.target,
-      well c.args.track c.args.target true t (with-true (sym c.if-not-track_ok.ensures)),
-    )
+returns-in-Err c =
+    let n = sym (asked (goal.at.returns-in-Err c).After-ask_target) ∙ ap told c.in-Err.is in
+    rw (c.number.ensures, c.new.ensures, n, ne_eqb (number_of c.in-Err.refusal) 0 (some-number c.in-Err.refusal))

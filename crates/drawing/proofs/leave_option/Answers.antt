@@ -1,36 +1,21 @@
 -- `leave_option`: the tests in their order, then one element is set.
-use mathlib.Core.Path.{◌≡◌, refl, sym, ap, ◌∙◌}
-use mathlib.Core.Bool.{true, false, ◌&&◌}
-use mir.Syntax.{w32}
-use mir.Facts.{to_z-of_z}
+use Rattle.std.proofs.Common.{◌≡◌, refl, sym, ap, ◌∙◌, to_z-of_z}
+use Rattle.laws.proofs.Tests.{both}
+use Rattle.numbers.specs.Refusals.{told}
 use Rattle.cycles.specs.Due.{key}
-use Rattle.state.specs.Calls.{answered}
-use Rattle.drawing.specs.Options.{with_option, left}
-use Rattle.laws.proofs.Tests.{is_at, both}
-use Rattle.numbers.specs.Ranges.{is_target}
-use Rattle.state.specs.Tests.{ok_track}
-use Rattle.drawing.proofs.Refusing.{no_target, no_number, well}
+use Rattle.state.proofs.Answers.{asked-well, asked-ill}
+use Rattle.drawing.specs.Options.{for_target, target_refusal, with_option, left}
+use Rattle.drawing.proofs.leave_option.Goals.{then-is_ok, else-is_ok}
 use Rattle.drawing.proofs.leave_option.Goals as goal
 
-pub returns-then-not-is_target : goal.returns-then-not-is_target
-unfolding left answered
-returns-then-not-is_target c =
-    let t : is_target c.args.target ≡ false = sym (is_at w32 {z = c.args.target} is_target c.ranges.target.sfits c.if-not-is_target.ensures) in
-    rw (no_target c.args.track c.args.target c.args.allowed t)
-
-pub returns-then-not-track_ok-allowed : goal.returns-then-not-track_ok-allowed
-unfolding left answered
-returns-then-not-track_ok-allowed c =
-    let t : is_target c.args.target ≡ true = sym (is_at w32 {z = c.args.target} is_target c.ranges.target.sfits c.if-not-is_target.ensures) in
-    let tested : (c.track_ok.result && c.args.allowed) ≡ (ok_track c.args.track && c.args.allowed) = both c.track_ok.ensures refl in
-    rw (no_number c.args.track c.args.target c.args.allowed t (sym tested ∙ c.if-not-track_ok-allowed.true))
-
 pub returns : goal.returns
-unfolding left answered with_option
+unfolding left with_option target_refusal
 returns c =
-    let t : is_target c.args.target ≡ true = sym (is_at w32 {z = c.args.target} is_target c.ranges.target.sfits c.if-not-is_target.ensures) in
-    let tested : (c.track_ok.result && c.args.allowed) ≡ (ok_track c.args.track && c.args.allowed) = both c.track_ok.ensures refl in
-    rw (
-      well c.args.track c.args.target c.args.allowed t (sym tested ∙ c.if-not-track_ok-allowed.false),
-      c.key_of-k.ensures ∙ ap key (to_z-of_z c.ranges.target),
-    )
+    let a = c.args.track in
+    let t = to_z-of_z c.ranges.target in
+    let n : told c.ask_target-asked.result ≡ target_refusal a c.args.target c.args.allowed =
+    (rw t at c.ask_target-asked.ensures) ∙ ap (for_target c.args.target) (both c.track_ok.ensures refl) in
+    elim c.if-is_ok.branch [
+      | then-is_ok w ↦ rw (c.code_of.ensures, w.track-is, w.key_of.ensures ∙ ap key t) (asked-well _ n _ _ (sym c.is_ok.ensures.value ∙ w.if-is_ok.true))
+      | else-is_ok w ↦ rw (c.code_of.ensures, w.track-is) (asked-ill _ n _ _ (sym c.is_ok.ensures.value ∙ w.if-is_ok.false))
+    ]

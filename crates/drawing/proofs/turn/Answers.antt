@@ -20,10 +20,10 @@ pub returns-then-key_of-k : goal.returns-then-key_of-k
 unfolding turned keyed
 returns-then-key_of-k c =
     let f : SFits w32 c.args.e.target = search rules in
-    rw (← same_key c.args.e.target f c.key_of.ensures, eq-eqb _ _ c.if-key_of-k.true)
+    rw (to_z-of_z f, ← same_key c.args.e.target f c.key_of.ensures, eq-eqb _ _ c.if-key_of-k.true)
 
-pub returns : goal.returns
+pub returns-else-key_of-k : goal.returns-else-key_of-k
 unfolding turned keyed
-returns c =
+returns-else-key_of-k c =
     let f : SFits w32 c.args.e.target = search rules in
     rw (← same_key c.args.e.target f c.key_of.ensures, ne_eqb _ _ c.if-key_of-k.false)

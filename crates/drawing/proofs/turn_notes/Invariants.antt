@@ -1,7 +1,5 @@
 -- `turn_notes` lays the turned lists over those of the table (the law Over), one a turn.
-use mathlib.Core.Path.{◌≡◌}
-use mathlib.Core.List.{List, map}
-use Prim.Native.Nat.{ℕ, ◌-◌, ◌≤◌}
+use Rattle.std.proofs.Common.{◌≡◌, ℕ, List, map}
 use Rattle.laws.specs.Lists.{over}
 use Rattle.tables.specs.declared.OnNoteValues.{OnNoteValues}
 use Rattle.drawing.specs.Options.{turned}
@@ -12,7 +10,4 @@ abbrev pub done : (OnNoteValues → OnNoteValues) → List OnNoteValues → ℕ 
 done f l i = over l (map f l) i
 
 abbrev pub invariant-loop-i : goal.invariant-loop-i
-invariant-loop-i l = (l.i ≤ l.count) × (l.items ≡ done (turned l.k l.on) l.from l.i)
-
-abbrev pub decreases-loop-i : goal.decreases-loop-i
-decreases-loop-i l = l.count - l.i
+invariant-loop-i l = (l.table.count ≡ l.fn.table.count) × (l.table.items ≡ done (turned l.k l.on) l.fn.table.items l.i)

@@ -1,8 +1,6 @@
 -- `write_of`: each number of the track, read back, is itself.
-use borrow.Author.Rules.{rules}
-use mir.Syntax.{w32, w64}
+use Rattle.std.proofs.Common.{rules, w32, w64, to_z-of_z}
 use mir.Val.{SFits}
-use mir.Facts.{to_z-of_z}
 use Rattle.drawing.specs.Write.{write_of}
 use Rattle.drawing.proofs.write_of.Goals as goal
 
@@ -17,8 +15,8 @@ returns c =
     let ccfreq : SFits w32 a.ccfreq = search rules in
     let pbfreq : SFits w32 a.pbfreq = search rules in
     rw (
-      rw (target, to_z-of_z ccfreq, to_z-of_z pbfreq, to_z-of_z timebase) at c.freq_for-freq.ensures,
-      rw target at c.option_of-option.ensures,
+      rw (target, to_z-of_z ccfreq, to_z-of_z pbfreq, to_z-of_z timebase) at c.freq_for.ensures,
+      rw target at c.option_of.ensures,
       target,
       to_z-of_z channel,
       to_z-of_z time,

@@ -7,8 +7,8 @@ use Rattle.noting.proofs.advance.Goals as goal
 pub overflow_add-e : goal.overflow_add-e
 overflow_add-e c =
     let s = sound c.args.e c.requires in
-    omega (arith, place-few c.args.e s, c.place_of-p.ensures)
+    omega (arith, place-few c.args.e s, c.place_of.ensures)
 
 pub returns : goal.returns
 unfolding advanced
-returns c = rw c.place_of-p.ensures
+returns c = rw c.place_of.ensures

@@ -11,89 +11,46 @@ use Rattle.tables.specs.declared.OnNoteValues.{OnNoteValues}
 use Rattle.tables.specs.Tables.{no_note}
 use Rattle.noting.specs.Lists.{spent}
 use Rattle.noting.proofs.Closing as C
+use Rattle.noting.proofs.keep_unspent.Goals.{In-loop-i, then-not-is_spent, else-not-is_spent}
 use Rattle.noting.proofs.keep_unspent.Goals as goal
 
 -- what a read past the end would give
 abbrev past : OnNoteValues
 past = record { target = pos 0; index = 0; cycling = 0; values = record { count = 0; items = [] } }
 
-module _ (c : goal.In-loop-i) where
+module _ (c : In-loop-i) where
+  fit : c.args.table.count ≤ length c.args.table.items
+  fit = let m : length c.args.table.items ≡ 16 = search (rules, length-told) in omega (arith, c.requires)
+
   less : c.loop-i.i < c.args.table.count
   less = search rules
 
-  near : c.loop-i.i < 16
-  near = omega (arith, less, c.requires)
-
-module _ (c : goal.After-e-1) where
-  less-at-2 : c.loop-i.i < c.args.table.count
-  less-at-2 = search rules
-
-  near-at-2 : c.loop-i.i < 16
-  near-at-2 = omega (arith, less-at-2, c.requires)
-
-module _ (c : goal.Then-is_spent) where
-  long-at-3 : length c.args.table.items ≡ 16
-  long-at-3 = search (rules, length-told)
-
-  fit-at-3 : c.args.table.count ≤ length c.args.table.items
-  fit-at-3 = omega (arith, long-at-3, c.requires)
-
-  less-at-3 : c.loop-i.i < c.args.table.count
-  less-at-3 = search rules
-
-module _ (c : goal.Else-is_spent) where
-  long-at-4 : length c.args.table.items ≡ 16
-  long-at-4 = search (rules, length-told)
-
-  fit-at-4 : c.args.table.count ≤ length c.args.table.items
-  fit-at-4 = omega (arith, long-at-4, c.requires)
-
-  less-at-4 : c.loop-i.i < c.args.table.count
-  less-at-4 = search rules
-
-  near-at-4 : c.loop-i.i < 16
-  near-at-4 = omega (arith, less-at-4, c.requires)
-
-  few-at-4 : c.loop-i.n < 16
-  few-at-4 = let v = c.loop-i in omega (arith, near-at-4, C.few no_note spent c.args.table.items c.args.table.count fit-at-4 v.notes.items v.n v.i v.invariant)
+  few : c.loop-i.n < 16
+  few = let v = c.loop-i in omega (arith, less, c.requires, C.few no_note spent c.args.table.items c.args.table.count fit v.notes.items v.n v.i v.invariant)
 
 pub loop-i-init : goal.loop-i-init
 loop-i-init c = let t = c.args.table in C.begun no_note spent t.items t.count
 
-pub offset_bounds-notes-i : goal.offset_bounds-notes-i
-offset_bounds-notes-i c = omega (arith, near c)
-
-pub bounds-notes-i : goal.bounds-notes-i
-bounds-notes-i c = near c
-
-pub offset_bounds-notes-i-in-loop-i : goal.offset_bounds-notes-i-in-loop-i
-offset_bounds-notes-i-in-loop-i c = omega (arith, near-at-2 c)
-
-pub bounds-notes-i-in-loop-i : goal.bounds-notes-i-in-loop-i
-bounds-notes-i-in-loop-i c = near-at-2 c
-
-pub loop-i-preserved-then-is_spent : goal.loop-i-preserved-then-is_spent
-loop-i-preserved-then-is_spent c =
-    let t = c.args.table in
-    let v = c.loop-i in
-    C.taken_out no_note spent t.items t.count (fit-at-3 c) v.notes.items v.n v.i v.invariant (less-at-3 c) past
-    c.blank-none.result c.blank-none.ensures c.is_spent.result c.is_spent.ensures c.if-is_spent.true
-
 pub offset_bounds-notes-n : goal.offset_bounds-notes-n
-offset_bounds-notes-n c = omega (arith, few-at-4 c)
+offset_bounds-notes-n c = omega (arith, few (goal.at.offset_bounds-notes-n c).In-loop-i)
 
 pub bounds-notes-n : goal.bounds-notes-n
-bounds-notes-n c = few-at-4 c
+bounds-notes-n c = few (goal.at.bounds-notes-n c).In-loop-i
 
 pub overflow_add-n : goal.overflow_add-n
-overflow_add-n c = omega (arith, few-at-4 c)
+overflow_add-n c = omega (arith, few (goal.at.overflow_add-n c).In-loop-i)
 
 pub loop-i-preserved : goal.loop-i-preserved
 loop-i-preserved c =
     let t = c.args.table in
     let v = c.loop-i in
-    C.stays no_note spent t.items t.count (fit-at-4 c) v.notes.items v.n v.i v.invariant (less-at-4 c) past
-    c.blank-none.result c.blank-none.ensures c.is_spent.result c.is_spent.ensures c.if-is_spent.false
+    let at = (goal.at.loop-i-preserved c).In-loop-i in
+    elim c.if-not-is_spent.branch [
+      | then-not-is_spent w ↦ rw (w.notes-is, w.n-is) (C.stays no_note spent t.items t.count (fit at) v.notes.items v.n v.i v.invariant (less at) past
+          c.blank-none.result c.blank-none.ensures c.is_spent.result c.is_spent.ensures w.if-not-is_spent.true)
+      | else-not-is_spent w ↦ rw (w.notes-is, w.n-is) (C.taken_out no_note spent t.items t.count (fit at) v.notes.items v.n v.i v.invariant (less at) past
+          c.blank-none.result c.blank-none.ensures c.is_spent.result c.is_spent.ensures w.if-not-is_spent.false)
+    ]
 
 pub returns : goal.returns
 returns c =

@@ -35,7 +35,7 @@ one_value-requires c =
     let m = near c.args.at.start c.requires.2 in
     let f : SFits w64 c.args.at.start = record { sfits = omega arith } in
     let e = c.value_of.ensures in
-    rw (to_z-of_z f, value-back c.widened-value.ensures.0 e.0 e.1)
+    rw (to_z-of_z f, value-back c.from.ensures e.0 e.1)
     (record { time = omega arith; some = omega arith; slow = omega arith }, record { step = omega arith; value = small e.0 e.1 })
 
 pub returns : goal.returns
@@ -46,4 +46,4 @@ returns c =
     let f : SFits w64 c.args.at.start = record { sfits = omega arith } in
     let g : SFits w32 c.args.at.channel = search rules in
     let e = c.value_of.ensures in
-    rw (to_z-of_z (fits-target x (sound x c.requires.0)), to_z-of_z g, to_z-of_z f, value-back c.widened-value.ensures.0 e.0 e.1) at c.one_value.ensures
+    rw (to_z-of_z (fits-target x (sound x c.requires.0)), to_z-of_z g, to_z-of_z f, value-back c.from.ensures e.0 e.1) at c.one_value.ensures

@@ -1,6 +1,6 @@
 -- `place_of`: the definition's choice, by the branch that was taken.
+use Rattle.std.proofs.Common.{arith}
 use borrow.Author.Tests.{le-leb, lt-leb}
-use native.Mathlib.Omega.{arith}
 use Rattle.noting.specs.Lists.{place_of}
 use Rattle.noting.proofs.place_of.Goals as goal
 
@@ -8,6 +8,6 @@ pub returns-then-e : goal.returns-then-e
 unfolding place_of
 returns-then-e c = let e = c.args.e in rw (le-leb e.values.count e.index (omega arith))
 
-pub returns : goal.returns
+pub returns-else-e : goal.returns-else-e
 unfolding place_of
-returns c = let e = c.args.e in rw (lt-leb e.values.count e.index (omega arith))
+returns-else-e c = let e = c.args.e in rw (lt-leb e.values.count e.index (omega arith))

@@ -4,6 +4,7 @@ use mathlib.Core.List.{List}
 use Prim.Native.Nat.{◌≤◌}
 use native.Mathlib.Omega.{arith}
 use borrow.Author.Rules.{rules}
+use borrow.Author.Tests.{not-true, not-false}
 use lib.ListN.{length, take}
 use lib.Seq.{length-take-le}
 use Rattle.laws.proofs.Reading.{length-told}
@@ -29,10 +30,10 @@ module _ (t : NoteTable) (options : List WriteOption) (at : Onset) (b : Budget) 
   unfolding ran_of
   counted p e h = ap (λ (x : Played). x.notes.count) e ∙ long h
 
-pub returns-then-r : goal.returns-then-r
-returns-then-r c =
+pub returns-else-not-r : goal.returns-else-not-r
+returns-else-not-r c =
     let a = c.args in
-    play-lost a.table (r a.table a.options a.at a.b) c.run_notes-r.result c.run_notes-r.ensures c.if-r.true
+    play-lost a.table (r a.table a.options a.at a.b) c.run_notes-r.result c.run_notes-r.ensures (not-false _ c.if-not-r.false)
 
 pub keep_unspent-r-requires : goal.keep_unspent-r-requires
 keep_unspent-r-requires c =
@@ -41,10 +42,10 @@ keep_unspent-r-requires c =
     let few = few-notes a.table c.requires.0 in
     omega (arith, counted a.table a.options a.at a.b c.run_notes-r.result c.run_notes-r.ensures (omega arith))
 
-pub returns : goal.returns
-returns c =
+pub returns-then-not-r : goal.returns-then-not-r
+returns-then-not-r c =
     let a = c.args in
     let m : length a.table.items ≡ 16 = search (rules, length-told) in
     let few = few-notes a.table c.requires.0 in
     play-kept a.table (r a.table a.options a.at a.b) (long a.table a.options a.at a.b (omega arith))
-    c.run_notes-r.result c.keep_unspent-r.result c.run_notes-r.ensures c.if-r.false c.keep_unspent-r.ensures
+    c.run_notes-r.result c.keep_unspent-r.result c.run_notes-r.ensures (not-true _ c.if-not-r.true) c.keep_unspent-r.ensures

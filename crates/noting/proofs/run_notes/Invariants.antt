@@ -1,10 +1,6 @@
 -- `run_notes`: the loop's invariant and its steps are proofs/Walking's; here they meet the arrays.
-use Prim.Native.Nat.{◌-◌}
 use Rattle.noting.proofs.Walking as W
 use Rattle.noting.proofs.run_notes.Given as goal
 
 abbrev pub invariant-loop-i : goal.invariant-loop-i
-invariant-loop-i l = W.Walking l.options l.at l.initial.notes l.initial.budget l.notes l.events l.budget l.n l.i
-
-abbrev pub decreases-loop-i : goal.decreases-loop-i
-decreases-loop-i l = l.count - l.i
+invariant-loop-i l = W.Walking l.options l.at l.fn.table l.fn.b l.notes l.events l.budget l.made l.i

@@ -4,14 +4,8 @@ use Rattle.noting.proofs.step.Goals as goal
 
 pub returns-then-w : goal.returns-then-w
 unfolding step_of
-returns-then-w c =
-    let w = c.offer_value-w in
-    let t = c.if-w.true in
-    rw (← w.ensures, t, c.advance-moved.ensures)
+returns-then-w c = rw (← c.offer_value-w.ensures, c.if-w.true, c.advance.ensures)
 
-pub returns : goal.returns
+pub returns-else-w : goal.returns-else-w
 unfolding step_of
-returns c =
-    let w = c.offer_value-w in
-    let t = c.if-w.false in
-    rw (← w.ensures, t)
+returns-else-w c = rw (← c.offer_value-w.ensures, c.if-w.false)

@@ -1,6 +1,6 @@
 -- `value_of`: the place lies below the list's count, and that within the array.
 use mathlib.Core.Path.{ap}
-use Prim.Native.Nat.{ℕ, ◌≤◌, ◌<◌, ◌^◌}
+use Prim.Native.Nat.{ℕ, ◌≤◌, ◌^◌}
 use native.Mathlib.Omega.{arith}
 use borrow.Author.Rules.{rules}
 use lib.IntN.{pos}
@@ -16,28 +16,18 @@ use Rattle.noting.specs.Lists.{value_of}
 use Rattle.noting.proofs.Rules.{sound, some}
 use Rattle.noting.proofs.value_of.Goals as goal
 
--- the place lies below the count
-module _ (c : goal.After-values-1) where
-  here : c.place_of-p.result < c.args.e.values.count
-  here = omega (arith, c.place_of-p.ensures, some c.args.e c.requires.1)
+pub offset_bounds-e-place_of : goal.offset_bounds-e-place_of
+offset_bounds-e-place_of c = let f = sound c.args.e c.requires.0 in omega (arith, c.place_of.ensures, some c.args.e c.requires.1)
 
--- the place lies below the count
-module _ (c : goal.After-result-1) where
-  here-at-2 : c.place_of-p.result < c.args.e.values.count
-  here-at-2 = omega (arith, c.place_of-p.ensures, some c.args.e c.requires.1)
-
-pub offset_bounds-values-p : goal.offset_bounds-values-p
-offset_bounds-values-p c = let f = sound c.args.e c.requires.0 in omega (arith, here c)
-
-pub bounds-values-p : goal.bounds-values-p
-bounds-values-p c = let f = sound c.args.e c.requires.0 in omega (arith, here c)
+pub bounds-e-place_of : goal.bounds-e-place_of
+bounds-e-place_of c = let f = sound c.args.e c.requires.0 in omega (arith, c.place_of.ensures, some c.args.e c.requires.1)
 
 pub returns : goal.returns
 unfolding value_of is_number
 returns c =
     let x = c.args.e in
-    let p = c.place_of-p.result in
+    let p = c.place_of.result in
     let f = sound x c.requires.0 in
     let g : SFits w32 (get_or x.values.items p (pos 0)) = search rules in
-    let b : mag (get_or x.values.items p (pos 0)) ≤ 2 ^ 22 = sized-mag (2 ^ 22) _ (numbers-at x.values p f.numbers (here-at-2 c)) in
-    rw (to_z-of_z g) (ap (λ (k : ℕ). get_or x.values.items k (pos 0)) c.place_of-p.ensures, b)
+    let b : mag (get_or x.values.items p (pos 0)) ≤ 2 ^ 22 = sized-mag (2 ^ 22) _ (numbers-at x.values p f.numbers (omega (arith, c.place_of.ensures, some c.args.e c.requires.1))) in
+    rw (to_z-of_z g) (ap (λ (k : ℕ). get_or x.values.items k (pos 0)) c.place_of.ensures, b)

@@ -4,6 +4,9 @@ use mathlib.Core.Path.{◌≡◌, sym, ap, ◌∙◌}
 use mathlib.Core.Bool.{Bool, true, ◌&&◌}
 use Prim.Native.Nat.{ℕ, ◌+◌}
 use native.Mathlib.Omega.{arith}
+use borrow.Author.Rules.{rules}
+use borrow.Author.Tests.{leb-true, leb-false}
+use Rattle.std.specs.Prelude.{Err}
 use lib.IntN.{ℤ}
 use lib.ListN.{length, take}
 use lib.Seq.{take-append_seam}
@@ -29,7 +32,7 @@ use Rattle.state.proofs.Stored.{stored-notes}
 use Rattle.noting.specs.declared.Played.{Played}
 use Rattle.noting.specs.Runs.{Run, run, kept, notes_put, played_of}
 use Rattle.noting.specs.Calls.{run_of, with_notes, list_after, answer, noted, list_left}
-use Rattle.noting.specs.Listed.{listed_of}
+use Rattle.state.proofs.Told.{ask-ok, ask-err}
 use Rattle.noting.proofs.Refusing as R
 use Rattle.noting.proofs.write_lists.Goals as goal
 
@@ -77,72 +80,82 @@ module _ (a : Track) (start : ℤ) (b : Budget) (fit : SFits w64 start) where
     unfolding run_of
     told e = rw (to_z-of_z fit, to_z-of_z (fits-channel a tracked)) at e
 
-pub returns-then-not-list_ok : goal.returns-then-not-list_ok
+pub returns-in_err-ask : goal.returns-in_err-ask
 unfolding noted list_left
-returns-then-not-list_ok c =
+returns-in_err-ask c =
     let x = c.args in
-    let q = R.no-list x.track x.start x.budget x.events.now x.count (sym c.list_ok.ensures ∙ c.if-not-list_ok.true) in
-    (rw q, rw q)
+    let r : c.from_residual.result ≡ Err c.in_err-ask.field-0.0 = search rules in
+    let k = ask-err _ _ c.ask.ensures c.in_err-ask.was in
+    let q = R.no-list x.track x.start x.budget x.events.now x.count (sym c.list_ok.ensures ∙ k.0) in
+    (rw (r, k.1, q), rw q)
 
-pub returns-then-not-is_time-ok : goal.returns-then-not-is_time-ok
+pub returns-in_err-ask-2 : goal.returns-in_err-ask-2
 unfolding noted list_left
-returns-then-not-is_time-ok c =
+returns-in_err-ask-2 c =
     let x = c.args in
+    let r : c.from_residual-in_err-ask-2.result ≡ Err c.in_err-ask-2.field-0.0 = search rules in
+    let k = ask-err _ _ c.ask-2.ensures c.in_err-ask-2.was in
+    let l = sym c.list_ok.ensures ∙ ask-ok _ _ c.ask.ensures c.in_ok-ask.was in
     let q =
-    R.no-numbers x.track x.start x.budget x.events.now x.count (sym c.list_ok.ensures ∙ c.if-not-list_ok.false)
-    (asked x.track x.start x.budget c.ranges.start c.is_time.ensures c.requires c.budget_ok.ensures c.if-not-is_time-ok.true) in
-    (rw q, rw q)
+    R.no-numbers x.track x.start x.budget x.events.now x.count l
+    (asked x.track x.start x.budget c.ranges.start c.is_time.ensures c.requires c.budget_ok.ensures k.0) in
+    (rw (r, k.1, q), rw q)
 
-pub play_notes-r-requires : goal.play_notes-r-requires
-play_notes-r-requires c =
+pub play_notes-played-requires : goal.play_notes-played-requires
+play_notes-played-requires c =
     let x = c.args in
-    let held = asked x.track x.start x.budget c.ranges.start c.is_time.ensures c.requires c.budget_ok.ensures c.if-not-is_time-ok.false in
+    let held = asked x.track x.start x.budget c.ranges.start c.is_time.ensures c.requires c.budget_ok.ensures (ask-ok _ _ c.ask-2.ensures c.in_ok-ask-2.was) in
     (stored-notes x.track (tracked x.track x.start x.budget c.ranges.start held), rw (to_z-of_z c.ranges.start) (timed x.track x.start x.budget c.ranges.start held))
 
 pub overflow_sub-events : goal.overflow_sub-events
 overflow_sub-events c =
     let x = c.args in
-    omega (arith, list-within x.events.now x.count (sym c.list_ok.ensures ∙ c.if-not-list_ok.false), length-rows_of x.events.now)
+    let l = sym c.list_ok.ensures ∙ ask-ok _ _ c.ask.ensures c.in_ok-ask.was in
+    omega (arith, list-within x.events.now x.count l, length-rows_of x.events.now)
 
-pub returns-then-events-count : goal.returns-then-events-count
+pub returns-in_err-ask-3 : goal.returns-in_err-ask-3
 unfolding noted list_left
-returns-then-events-count c =
+returns-in_err-ask-3 c =
     let x = c.args in
-    let l = sym c.list_ok.ensures ∙ c.if-not-list_ok.false in
-    let held = asked x.track x.start x.budget c.ranges.start c.is_time.ensures c.requires c.budget_ok.ensures c.if-not-is_time-ok.false in
-    let made = made-is x.track (run_of x.track x.start x.budget) c.play_notes-r.result (told x.track x.start x.budget c.ranges.start held c.play_notes-r.ensures) in
-    let taken = c.if-events-count.true in
-    let over = R.lacks-room x.track x.start x.budget x.events.now x.count l (omega (arith, length-rows_of x.events.now, made)) in
+    let r : c.from_residual-in_err-ask-3.result ≡ Err c.in_err-ask-3.field-0.0 = search rules in
+    let k = ask-err _ _ c.ask-3.ensures c.in_err-ask-3.was in
+    let l = sym c.list_ok.ensures ∙ ask-ok _ _ c.ask.ensures c.in_ok-ask.was in
+    let held = asked x.track x.start x.budget c.ranges.start c.is_time.ensures c.requires c.budget_ok.ensures (ask-ok _ _ c.ask-2.ensures c.in_ok-ask-2.was) in
+    let ran = told x.track x.start x.budget c.ranges.start held c.play_notes-played.ensures in
+    let made = made-is x.track (run_of x.track x.start x.budget) c.play_notes-played.result ran in
+    let full = leb-false _ _ k.0 in
+    let over = R.lacks-room x.track x.start x.budget x.events.now x.count l (omega (arith, length-rows_of x.events.now, made, full)) in
     let q = R.no_room x.track x.start x.budget x.events.now x.count l held over in
-    (rw q, rw q)
+    (rw (r, k.1, q), rw q)
 
-pub append_all-n-requires : goal.append_all-n-requires
-append_all-n-requires c =
+pub append_all-requires : goal.append_all-requires
+append_all-requires c =
     let x = c.args in
-    let l = sym c.list_ok.ensures ∙ c.if-not-list_ok.false in
-    let held = asked x.track x.start x.budget c.ranges.start c.is_time.ensures c.requires c.budget_ok.ensures c.if-not-is_time-ok.false in
-    let made = made-is x.track (run_of x.track x.start x.budget) c.play_notes-r.result (told x.track x.start x.budget c.ranges.start held c.play_notes-r.ensures) in
+    let l = sym c.list_ok.ensures ∙ ask-ok _ _ c.ask.ensures c.in_ok-ask.was in
+    let held = asked x.track x.start x.budget c.ranges.start c.is_time.ensures c.requires c.budget_ok.ensures (ask-ok _ _ c.ask-2.ensures c.in_ok-ask-2.was) in
+    let ran = told x.track x.start x.budget c.ranges.start held c.play_notes-played.ensures in
+    let made = made-is x.track (run_of x.track x.start x.budget) c.play_notes-played.result ran in
+    let free = leb-true _ _ (ask-ok _ _ c.ask-3.ensures c.in_ok-ask-3.was) in
     let few = R.few-events x.track x.start x.budget x.events.now x.count (tracked x.track x.start x.budget c.ranges.start held) in
-    let left' = c.if-events-count.false in
-    (omega (arith, made, few), omega (arith, made, length-rows_of x.events.now, list-within x.events.now x.count l))
+    (omega (arith, made, few), omega (arith, made, free, length-rows_of x.events.now, list-within x.events.now x.count l))
 
 pub returns : goal.returns
 unfolding noted list_left
 returns c =
-    let p = c.append_all-n in
+    let p = c.append_all in
     let x = c.args in
     let r = run_of x.track x.start x.budget in
-    let l = sym c.list_ok.ensures ∙ c.if-not-list_ok.false in
-    let held = asked x.track x.start x.budget c.ranges.start c.is_time.ensures c.requires c.budget_ok.ensures c.if-not-is_time-ok.false in
-    let ran = told x.track x.start x.budget c.ranges.start held c.play_notes-r.ensures in
-    let made = made-is x.track r c.play_notes-r.result ran in
-    let left' = c.if-events-count.false in
-    let room = R.has_room x.track x.start x.budget x.events.now x.count l (omega (arith, length-rows_of x.events.now, made)) in
+    let l = sym c.list_ok.ensures ∙ ask-ok _ _ c.ask.ensures c.in_ok-ask.was in
+    let held = asked x.track x.start x.budget c.ranges.start c.is_time.ensures c.requires c.budget_ok.ensures (ask-ok _ _ c.ask-2.ensures c.in_ok-ask-2.was) in
+    let ran = told x.track x.start x.budget c.ranges.start held c.play_notes-played.ensures in
+    let made = made-is x.track (run_of x.track x.start x.budget) c.play_notes-played.result ran in
+    let free = leb-true _ _ (ask-ok _ _ c.ask-3.ensures c.in_ok-ask-3.was) in
+    let room = R.has_room x.track x.start x.budget x.events.now x.count l (omega (arith, length-rows_of x.events.now, made, free)) in
     let q = R.well x.track x.start x.budget x.events.now x.count l held room in
     let long : p.result ≡ length (list_after (events_of x.events.now x.count) r) =
     p.ensures.0 ∙ ap (λ (k : ℕ). x.count + k) made ∙ sym (R.left-long x.track x.start x.budget x.events.now x.count l) in
-    let rows = rw (events-are x.track r c.play_notes-r.result ran) at p.ensures.1 in (
-      rw q (ap listed_of (same_answer x.track long (budget-is x.track r c.play_notes-r.result ran) (notes-is x.track r c.play_notes-r.result ran))),
+    let rows = rw (events-are x.track r c.play_notes-played.result ran) at p.ensures.1 in (
+      rw q (same_answer x.track long (budget-is x.track r c.play_notes-played.result ran) (notes-is x.track r c.play_notes-played.result ran)),
       rw q
           (determined x.events.now p.new.events (put_first zero_event x.count (list_after (events_of x.events.now x.count) r) (rows_of x.events.now))
           (list-whole x.events.now x.count l) p.auto.events rows),

@@ -1,18 +1,19 @@
--- `set_channel` tests the track and the number.
-use mathlib.Core.Path.{◌≡◌, sym, ◌∙◌}
-use mir.Facts.{to_z-of_z}
-use borrow.Author.Rules.{rules}
+-- `set_channel` asks the track and the number, and changes the track where both are well.
+use Rattle.std.proofs.Common.{rules, ◌≡◌, sym, ap, ◌∙◌, to_z-of_z}
 use Rattle.laws.proofs.Tests.{both}
+use Rattle.numbers.specs.Refusals.{told}
 use Rattle.numbers.specs.Ranges.{is_channel}
-use Rattle.state.proofs.Answers.{refused, done}
+use Rattle.reserved.specs.Setting.{demand}
+use Rattle.state.proofs.Told.{told-asked}
+use Rattle.state.proofs.Answers.{asked-well, asked-ill}
+use Rattle.state.proofs.set_channel.Goals.{then-is_ok, else-is_ok}
 use Rattle.state.proofs.set_channel.Goals as goal
-
-pub returns-then-not-a-b : goal.returns-then-not-a-b
-returns-then-not-a-b c =
-    let e : c.channel_ok-b.result ≡ is_channel c.args.channel = search rules in
-    refused _ _ (sym (both c.track_ok-a.ensures e) ∙ c.if-not-a-b.true)
 
 pub returns : goal.returns
 returns c =
-    let e : c.channel_ok-b.result ≡ is_channel c.args.channel = search rules in
-    rw (to_z-of_z c.ranges.channel) (done _ _ (sym (both c.track_ok-a.ensures e) ∙ c.if-not-a-b.false))
+    let e : c.channel_ok.result ≡ is_channel c.args.channel = search rules in
+    let n = ap told c.ask-asked.ensures ∙ told-asked _ _ ∙ ap demand (both c.track_ok.ensures e) in
+    elim c.if-is_ok.branch [
+      | then-is_ok w ↦ rw (c.code_of.ensures, w.track-is, to_z-of_z c.ranges.channel) (asked-well _ n _ _ (sym c.is_ok.ensures.value ∙ w.if-is_ok.true))
+      | else-is_ok w ↦ rw (c.code_of.ensures, w.track-is) (asked-ill _ n _ _ (sym c.is_ok.ensures.value ∙ w.if-is_ok.false))
+    ]

@@ -1,6 +1,5 @@
 -- `track_ok` joins the tests of a track's parts.
-use mathlib.Core.Path.{◌≡◌, refl}
-use borrow.Author.Rules.{rules}
+use Rattle.std.proofs.Common.{rules, ◌≡◌, refl}
 use Rattle.laws.proofs.Tests.{both}
 use Rattle.state.specs.Tests.{ok_play, ok_track}
 use Rattle.state.proofs.track_ok.Goals as goal
@@ -8,5 +7,5 @@ use Rattle.state.proofs.track_ok.Goals as goal
 pub returns : goal.returns
 unfolding ok_track ok_play
 returns c =
-    let p : c.play_ok-a.result ≡ ok_play c.args.track = search rules in
-    both (both (both (both (both p c.params_ok-b.ensures) c.own_layers_ok-c.ensures) c.options_ok-d.ensures) c.tables_ok-e.ensures) refl
+    let p : c.play_ok.result ≡ ok_play c.args.track = search rules in
+    both (both (both (both (both p c.params_ok.ensures) c.own_layers_ok.ensures) c.options_ok.ensures) c.tables_ok.ensures) refl

@@ -3,7 +3,7 @@ use native.Mathlib.Omega.{arith}
 use lib.IntN.{pos}
 use mir.Syntax.{w32, w64}
 use mir.Val.{SFits, to_z, of_z}
-use mir.Facts.{to_z-of_z, to_z_pos}
+use mir.Facts.{to_z-of_z}
 use Rattle.budget.specs.declared.Budget.{Budget}
 use Rattle.counted.specs.declared.Numbers.{Numbers}
 use Rattle.counted.specs.Numbers.{shown}
@@ -14,11 +14,11 @@ use Rattle.values.specs.declared.Write.{Write}
 use Rattle.values.specs.Value.{Ready}
 use Rattle.offers.specs.Waves.{triples}
 use Rattle.writing.specs.Sines.{sine_pieces}
-use Rattle.tables.proofs.Sines.{sine-low, sine-high, sine-length, sine-times, sine-shape}
+use Rattle.tables.proofs.Sines.{sine-low, sine-high, sine-length, sine-times}
 use Rattle.drawing.specs.Write.{write_of}
 use Rattle.drawing.proofs.Asking.{track-ready}
 use Rattle.waving.specs.Drawings.{sine_drawing}
-use borrow.Author.Rules.{rules}
+use borrow.Author.Rules.{rules, sfits_of}
 use Rattle.waving.proofs.sine_draft.Goals.{After-from_i-stype}
 use Rattle.waving.proofs.sine_draft.Goals as goal
 
@@ -32,11 +32,11 @@ module _ (c : After-from_i-stype) where
       let times : SFits w32 c.args.e.times = search rules in
       (to_z-of_z low, to_z-of_z high, to_z-of_z long, to_z-of_z times)
 
-pub sine_figure-figure-requires : goal.sine_figure-figure-requires
-sine_figure-figure-requires c =
+pub sine_figure-requires : goal.sine_figure-requires
+sine_figure-requires c =
     let e = c.args.e in
     let h = c.requires.1 in
-    let f = held (goal.at.sine_figure-figure-requires c).After-from_i-stype in
+    let f = held (goal.at.sine_figure-requires c).After-from_i-stype in
     (rw f.0 (sine-low e h), rw f.1 (sine-high e h), rw f.2 (sine-length e h), rw f.3 (sine-times e h))
 
 pub returns : goal.returns
@@ -45,11 +45,10 @@ returns c =
     let e = c.args.e in
     let f = held (goal.at.returns c).After-from_i-stype in
     let target : SFits w32 e.target = search rules in
-    let asked : c.write_of-write.result ≡ write_of c.args.track e.target = c.write_of-write.ensures ∙ ap (write_of c.args.track) (to_z-of_z target) in
-    let shape : to_z w64 e.shape ≡ pos e.shape = to_z_pos w64 (omega (arith, sine-shape e c.requires.1)) in
-    let kind : c.from_i-stype.result ≡ sine_type (pos e.shape) = kind-told (to_z w64 e.shape) c.from_i-stype.result c.from_i-stype.ensures ∙ ap sine_type shape in
+    let asked : c.write_of.result ≡ write_of c.args.track e.target = c.write_of.ensures ∙ ap (write_of c.args.track) (to_z-of_z target) in
+    let kind : c.from_i-stype.result ≡ sine_type (pos e.shape) = kind-told (to_z w64 (of_z w64 c.from.result)) c.from_i-stype.result c.from_i-stype.ensures ∙ ap sine_type (to_z-of_z {w = w64} (sfits_of c.from.type_inv) ∙ c.from.ensures) in
     let ts = triples (shown c.empty.result) in
-    let p = c.sine_figure-figure.ensures in
+    let p = c.sine_figure.ensures in
     λ (b : Budget).
     record {
       able =

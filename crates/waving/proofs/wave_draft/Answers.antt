@@ -16,8 +16,8 @@ use Rattle.waving.proofs.Reserved.{wave-few, wave-fine}
 use borrow.Author.Rules.{rules}
 use Rattle.waving.proofs.wave_draft.Goals as goal
 
-pub list_figure-figure-requires : goal.list_figure-figure-requires
-list_figure-figure-requires c =
+pub list_figure-requires : goal.list_figure-requires
+list_figure-requires c =
     (wave-few c.args.e c.requires.1, wave-fine c.args.e c.requires.1, c.requires.2)
 
 pub returns : goal.returns
@@ -25,9 +25,9 @@ unfolding wave_drawing
 returns c =
     let A = c.args in
     let target : SFits w32 A.e.target = search rules in
-    let asked : c.write_of-write.result ≡ write_of A.track A.e.target = c.write_of-write.ensures ∙ ap (write_of A.track) (to_z-of_z target) in
+    let asked : c.write_of.result ≡ write_of A.track A.e.target = c.write_of.ensures ∙ ap (write_of A.track) (to_z-of_z target) in
     let ts = triples (shown A.e.values) in
-    let f = c.list_figure-figure.ensures in
+    let f = c.list_figure.ensures in
     record {
       able =
           record {
@@ -36,6 +36,6 @@ returns c =
             few = wave-few A.e c.requires.1;
           };
       write = asked;
-      pieces = f.1 ∙ ap (λ (x : Mode). wave_triples A.b x ts A.n) c.mode_of-mode.ensures;
-      cut = f.2 ∙ ap (λ (x : Mode). cut_by x A.n (step_budget A.b)) c.mode_of-mode.ensures;
+      pieces = f.1 ∙ ap (λ (x : Mode). wave_triples A.b x ts A.n) c.mode_of.ensures;
+      cut = f.2 ∙ ap (λ (x : Mode). cut_by x A.n (step_budget A.b)) c.mode_of.ensures;
     }

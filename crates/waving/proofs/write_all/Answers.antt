@@ -106,7 +106,7 @@ returns-then-events-kept c =
     let told = sym c.in-Ok.is ∙ c.survey.ensures in
     let s = kept-stays A.track A.n A.b A.events.now A.count A.store c.requires.0 c.requires.2 _ c.plan_of-plan.ensures _ told in
     let n = length-rows_of A.events.now in
-    rw (stored A.track A.n A.b A.events.now A.count A.store c.requires.0 c.requires.2 _ c.plan_of-plan.ensures _ told)
+    rw (c.number-then-events-kept.ensures, stored A.track A.n A.b A.events.now A.count A.store c.requires.0 c.requires.2 _ c.plan_of-plan.ensures _ told)
     (refused (drawings_of A.track A.n) (drawings-lone A.track A.n c.requires.0.passed) A.b (rows_of A.events.now) A.count c.requires.2 _ s _ c.plan_of-plan.ensures.added
     (let h = c.if-events-kept.true in omega arith))
 

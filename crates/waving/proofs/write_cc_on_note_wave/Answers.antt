@@ -1,5 +1,11 @@
 -- `write_cc_on_note_wave` meets its contract: the tests in their order (Refusing), then what the passes leave, which for a whole
 -- number of records says every number (`determined`).
+use Rattle.std.specs.Prelude.{Ok}
+use borrow.Author.Tests.{ne_eqb}
+use Rattle.numbers.specs.Refusals.{number_of, told}
+use Rattle.state.proofs.Told.{some-number}
+use Rattle.drawing.specs.Calls.{in_order}
+use Rattle.drawing.proofs.Drawn.{Passed, passed as passed_all}
 use mathlib.Core.Path.{◌≡◌, sym, ap, subst, ◌∙◌}
 use mathlib.Core.Bool.{Bool, true, cond, ◌&&◌}
 use mathlib.Core.List.{List}
@@ -35,9 +41,9 @@ use Rattle.state.proofs.Keeping.{timepos-kept}
 use Rattle.waving.specs.Drawings.{drawings_of}
 use Rattle.waving.specs.Calls.{Stand, note_steps, room_refusal, after_note, wrote_all, rows_all}
 use Rattle.waving.specs.Passes.{Held, unstored}
-use Rattle.waving.proofs.Refusing.{budget-small, no-list, no-numbers, numbers-well, answer-tested, rows-tested, numbers-left}
+use Rattle.waving.proofs.Refusing.{budget-small, refused-first, numbers-well, answer-tested, rows-tested, numbers-left}
 use borrow.Author.Rules.{rules}
-use Rattle.waving.proofs.write_cc_on_note_wave.Goals.{After-budget_ok-c}
+use Rattle.waving.proofs.write_cc_on_note_wave.Goals.{After-asked}
 use Rattle.waving.proofs.write_cc_on_note_wave.Goals as goal
 
 -- what the passes leave, of a note's start and its steps
@@ -45,11 +51,11 @@ module _ (a : Track) (b : Budget) (ok : Bool) (R : List Event) (count : ℕ) (r 
   abbrev Wrote : ℤ → ℕ → Type 0
   Wrote z n = (r ≡ cond ok (wrote_all (drawings_of (with_timepos a z) n) b R count) (unstored count b)) × (R' ≡ cond ok (rows_all (drawings_of (with_timepos a z) n) b R count) R)
 
-  told : {x y : ℤ} {m n : ℕ} → x ≡ y → m ≡ n → Wrote x m → Wrote y n
-  told {x} {n} p q h = subst (λ (z : ℤ). Wrote z n) p (subst (λ (k : ℕ). Wrote x k) q h)
+  told-at : {x y : ℤ} {m n : ℕ} → x ≡ y → m ≡ n → Wrote x m → Wrote y n
+  told-at {x} {n} p q h = subst (λ (z : ℤ). Wrote z n) p (subst (λ (k : ℕ). Wrote x k) q h)
 
 -- at the second test
-module _ (c : After-budget_ok-c) where
+module _ (c : After-asked) where
   -- the slice, the store's bytes and the numbers' test
   abbrev l : List ℤ
   l = c.args.events.now
@@ -60,8 +66,14 @@ module _ (c : After-budget_ok-c) where
   abbrev three : Bool
   three = is_time c.args.start && ok_track c.args.track && ok_budget c.args.budget
 
-  asked : (c.is_time-a.result && c.track_ok-b.result && c.budget_ok-c.result) ≡ three
-  asked = both (both (is_at w64 is_time c.ranges.start.sfits c.is_time-a.ensures) c.track_ok-b.ensures) c.budget_ok-c.ensures
+  asked : (c.is_time.result && c.track_ok.result && c.budget_ok.result) ≡ three
+  asked = both (both (is_at w64 is_time c.ranges.start.sfits c.is_time.ensures) c.track_ok.ensures) c.budget_ok.ensures
+
+  in-turn : in_order (is_list l c.args.count) true true (c.is_time.result && c.track_ok.result && c.budget_ok.result) 0 ≡ in_order (is_list l c.args.count) true true three 0
+  in-turn = ap (λ (t : Bool). in_order (is_list l c.args.count) true true t 0) asked
+
+  past : {u : Unit} → c.asked.result ≡ Ok u → Passed (is_list l c.args.count) true true three
+  past e = passed_all (is_list l c.args.count) true true three (sym in-turn ∙ sym c.asked.ensures ∙ ap told e)
 
   -- past it
   module _ (held : three ≡ true) where
@@ -100,41 +112,37 @@ module _ (c : After-budget_ok-c) where
     held-at : Held (with_timepos c.args.track c.args.start)
     held-at = record { passed = timepos-kept c.args.track passed c.args.start in-time; waves = waves-long; sines = sines-long }
 
-pub returns-then-not-list_ok : goal.returns-then-not-list_ok
-returns-then-not-list_ok c =
-    let q = no-list (length c.args.store.now) c.args.track c.args.start c.args.budget c.args.events.now c.args.count (sym c.if-not-list_ok.ensures) in
-    (rw q, rw q)
-
-pub returns-then-not-a-b : goal.returns-then-not-a-b
-returns-then-not-a-b c =
-    let d = (goal.at.returns-then-not-a-b c).After-budget_ok-c in
-    let q = no-numbers (bytes d) c.args.track c.args.start c.args.budget (l d) c.args.count (sym c.if-not-list_ok.ensures) (sym (asked d) ∙ c.if-not-a-b.true) in
-    (rw q, rw q)
+pub returns-in-Err : goal.returns-in-Err
+returns-in-Err c =
+    let d = (goal.at.returns-in-Err c).After-asked in
+    let e = sym (ap told c.in-Err.is) ∙ c.asked.ensures ∙ in-turn d in
+    let q = refused-first (bytes d) c.args.track c.args.start c.args.budget (l d) c.args.count e (some-number c.in-Err.refusal) in
+    rw c.number.ensures (rw (q, ne_eqb (number_of c.in-Err.refusal) 0 (some-number c.in-Err.refusal)), rw (q, ne_eqb (number_of c.in-Err.refusal) 0 (some-number c.in-Err.refusal)))
 
 pub overflow_sub-track : goal.overflow_sub-track
 overflow_sub-track c =
-    let d = (goal.at.overflow_sub-track c).After-budget_ok-c in
-    let h = sym (asked d) ∙ c.if-not-a-b.false in
+    let d = (goal.at.overflow_sub-track c).After-asked in
+    let h = (past d c.in_default.is).numbers-well in
     rw (to_z-of_z (time-fits d h), to_z-of_z c.ranges.start) (span_fits d h)
 
 pub write_all-requires : goal.write_all-requires
 write_all-requires c =
-    let d = (goal.at.write_all-requires c).After-budget_ok-c in
-    let h = sym (asked d) ∙ c.if-not-a-b.false in
-    (subst (λ (z : ℤ). Held (with_timepos c.args.track z)) (sym (to_z-of_z c.ranges.start)) (held-at d h), budget-small c.args.budget (spent d h), list-within (l d) c.args.count (sym c.if-not-list_ok.ensures))
+    let d = (goal.at.write_all-requires c).After-asked in
+    let h = (past d c.in_default.is).numbers-well in
+    (subst (λ (z : ℤ). Held (with_timepos c.args.track z)) (sym (to_z-of_z c.ranges.start)) (held-at d h), budget-small c.args.budget (spent d h), list-within (l d) c.args.count (past d c.in_default.is).list-well)
 
 pub returns : goal.returns
 returns c =
     let A = c.args in
-    let d = (goal.at.returns c).After-budget_ok-c in
-    let n = sym (asked d) ∙ c.if-not-a-b.false in
-    let list : is_list (l d) A.count ≡ true = sym c.if-not-list_ok.ensures in
+    let d = (goal.at.returns c).After-asked in
+    let n = (past d c.in_default.is).numbers-well in
+    let list : is_list (l d) A.count ≡ true = (past d c.in_default.is).list-well in
     let whole = list-whole (l d) A.count list in
     let S : Stand = after_note A.track A.start A.budget (events_of (l d) A.count) in
     let ok : Bool = ok_events (bytes d) (l d) A.count in
     let full : ℕ = room_refusal S (rows_of (l d)) in
     let steps : c.length_of-n.result ≡ note_steps A.track A.start = c.length_of-n.ensures ∙ ap cut (sub_back (time-fits d n) c.ranges.start (span_fits d n)) in
-    let h = told A.track A.budget ok (rows_of (l d)) A.count c.write_all.result (rows_of c.write_all.new.events) (to_z-of_z c.ranges.start) steps c.write_all.ensures in
+    let h = told-at A.track A.budget ok (rows_of (l d)) A.count c.write_all.result (rows_of c.write_all.new.events) (to_z-of_z c.ranges.start) steps c.write_all.ensures in
     let q = numbers-well (bytes d) A.track A.start A.budget (l d) A.count list n in
     rw q (
       h.0 ∙ answer-tested ok full A.count A.budget S,

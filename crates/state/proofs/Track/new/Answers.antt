@@ -1,21 +1,20 @@
 -- `new` tests the timebase and clamps the channel.
-use mathlib.Core.Path.{◌≡◌, sym, ap, ◌∙◌}
-use borrow.Author.Rules.{rules}
+use Rattle.std.proofs.Common.{rules, ◌≡◌, sym, ap, ◌∙◌}
 use Rattle.numbers.specs.Ranges.{is_timebase}
 use Rattle.state.specs.Track.{new_track}
 use Rattle.state.specs.Calls.{answer, on_channel, new_of}
 use Rattle.state.proofs.Answers.{refused, done}
 use Rattle.state.proofs.Track.new.Goals as goal
 
-pub returns-then-not-is_timebase : goal.returns-then-not-is_timebase
+pub returns-then-is_timebase : goal.returns-then-is_timebase
 unfolding new_of
-returns-then-not-is_timebase c =
+returns-then-is_timebase c =
     let e : c.is_timebase.result ≡ is_timebase c.args.timebase = search rules in
-    ap (answer 4) c.blank-track.ensures ∙ refused _ _ (sym e ∙ c.if-not-is_timebase.true)
+    let b : c.blank.result ≡ new_track c.args.timebase (on_channel c.args.channel) = search rules in
+    ap (answer 0) b ∙ done _ _ (sym e ∙ c.if-is_timebase.true)
 
-pub returns : goal.returns
+pub returns-else-is_timebase : goal.returns-else-is_timebase
 unfolding new_of
-returns c =
+returns-else-is_timebase c =
     let e : c.is_timebase.result ≡ is_timebase c.args.timebase = search rules in
-    let b : c.blank-track-2.result ≡ new_track c.args.timebase (on_channel c.args.channel) = search rules in
-    ap (answer 0) b ∙ done _ _ (sym e ∙ c.if-not-is_timebase.false)
+    rw (c.number.ensures, c.blank-else-is_timebase.ensures) (refused _ _ (sym e ∙ c.if-is_timebase.false))
