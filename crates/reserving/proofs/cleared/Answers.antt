@@ -1,6 +1,5 @@
 -- `cleared`: each table as its own call leaves it.
 use mathlib.Core.Path.{ap, ◌∙◌}
-use borrow.Author.Rules.{rules}
 use Rattle.tables.specs.declared.CycleTable.{CycleTable}
 use Rattle.tables.specs.Tables.{cycles_without}
 use Rattle.state.proofs.Lent.{notes-few, waves-few, sines-few, cycles-few}

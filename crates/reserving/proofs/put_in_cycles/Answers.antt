@@ -3,8 +3,7 @@ use mathlib.Core.Path.{◌≡◌, refl, ap, ◌∙◌}
 use mathlib.Core.Bool.{Bool, true, false, cond, not, ◌&&◌, ◌||◌}
 use mathlib.Core.List.{List}
 use Prim.Native.Nat.{ℕ}
-use borrow.Author.Rules.{rules}
-use borrow.Author.Tests.{not-true, leb-true, leb-false, ltb-true, le-ltb, lt-ltb}
+use borrow.Author.Tests.{not-true, leb-true, leb-false, le-ltb, lt-ltb}
 use lib.Dec.{leb, ltb}
 use Rattle.laws.proofs.Ranges.{left, right}
 use Rattle.numbers.specs.Limits.{places}
@@ -53,8 +52,8 @@ pub returns-then-gone-free : goal.returns-then-gone-free
 unfolding cleared
 returns-then-gone-free c =
     let s = c.args in
-    no_place s.track s.cycles (λ (f : Kept). s.gone || cycle_room f) (λ (f : Kept). cond s.gone f (with_cycle s.e f)) (cleared s.track s.cycles s.k) refl
-    (full s.gone (rest s.track s.cycles s.k s.e).count (rw (freed (goal.at.returns-then-gone-free c).After-take_cycle-free) at c.if-gone-free.true))
+    rw c.number.ensures (no_place s.track s.cycles (λ (f : Kept). s.gone || cycle_room f) (λ (f : Kept). cond s.gone f (with_cycle s.e f)) (cleared s.track s.cycles s.k) refl
+    (full s.gone (rest s.track s.cycles s.k s.e).count (rw (freed (goal.at.returns-then-gone-free c).After-take_cycle-free) at c.if-gone-free.true)))
 
 pub take_note-requires : goal.take_note-requires
 take_note-requires c = notes-few _ _ c.requires

@@ -1,6 +1,5 @@
 -- `put_in_notes`: the old entries go, and then a place is asked for, with a list for notes.
 use mathlib.Core.Path.{◌≡◌, refl, ap, ◌∙◌}
-use borrow.Author.Rules.{rules}
 use borrow.Author.Tests.{le-ltb, lt-ltb}
 use Rattle.tables.specs.declared.NoteTable.{NoteTable}
 use Rattle.tables.specs.declared.CycleTable.{CycleTable}
@@ -23,8 +22,8 @@ pub returns-then-notes-ge-PLACES : goal.returns-then-notes-ge-PLACES
 unfolding cleared
 returns-then-notes-ge-PLACES c =
     let s = c.args in
-    no_place s.track s.cycles note_room (with_note s.e) (cleared s.track s.cycles s.k) refl
-    (le-ltb _ _ (rw (left-count (goal.at.returns-then-notes-ge-PLACES c).After-take_note-notes) at c.if-notes-ge-PLACES.true))
+    rw c.number.ensures (no_place s.track s.cycles note_room (with_note s.e) (cleared s.track s.cycles s.k) refl
+    (le-ltb _ _ (rw (left-count (goal.at.returns-then-notes-ge-PLACES c).After-take_note-notes) at c.if-notes-ge-PLACES.true)))
 
 pub take_wave-requires : goal.take_wave-requires
 take_wave-requires c = waves-few _ _ c.requires

@@ -1,6 +1,5 @@
 -- `put_in_sines`: the old entries go, and then a place is asked for, with a sine.
 use mathlib.Core.Path.{◌≡◌, refl, ap, ◌∙◌}
-use borrow.Author.Rules.{rules}
 use borrow.Author.Tests.{le-ltb, lt-ltb}
 use Rattle.tables.specs.declared.SineTable.{SineTable}
 use Rattle.tables.specs.declared.CycleTable.{CycleTable}
@@ -23,8 +22,8 @@ pub returns-then-sines-ge-PLACES : goal.returns-then-sines-ge-PLACES
 unfolding cleared
 returns-then-sines-ge-PLACES c =
     let s = c.args in
-    no_place s.track s.cycles sine_room (with_sine s.e) (cleared s.track s.cycles s.k) refl
-    (le-ltb _ _ (rw (left-count (goal.at.returns-then-sines-ge-PLACES c).After-take_sine-sines) at c.if-sines-ge-PLACES.true))
+    rw c.number.ensures (no_place s.track s.cycles sine_room (with_sine s.e) (cleared s.track s.cycles s.k) refl
+    (le-ltb _ _ (rw (left-count (goal.at.returns-then-sines-ge-PLACES c).After-take_sine-sines) at c.if-sines-ge-PLACES.true)))
 
 pub take_note-requires : goal.take_note-requires
 take_note-requires c = notes-few _ _ c.requires

@@ -1,6 +1,5 @@
 -- `put_in_waves`: the old entries go, and then a place is asked for, with a wave.
 use mathlib.Core.Path.{◌≡◌, refl, ap, ◌∙◌}
-use borrow.Author.Rules.{rules}
 use borrow.Author.Tests.{le-ltb, lt-ltb}
 use Rattle.tables.specs.declared.WaveTable.{WaveTable}
 use Rattle.tables.specs.declared.CycleTable.{CycleTable}
@@ -23,8 +22,8 @@ pub returns-then-waves-ge-PLACES : goal.returns-then-waves-ge-PLACES
 unfolding cleared
 returns-then-waves-ge-PLACES c =
     let s = c.args in
-    no_place s.track s.cycles wave_room (with_wave s.e) (cleared s.track s.cycles s.k) refl
-    (le-ltb _ _ (rw (left-count (goal.at.returns-then-waves-ge-PLACES c).After-take_wave-waves) at c.if-waves-ge-PLACES.true))
+    rw c.number.ensures (no_place s.track s.cycles wave_room (with_wave s.e) (cleared s.track s.cycles s.k) refl
+    (le-ltb _ _ (rw (left-count (goal.at.returns-then-waves-ge-PLACES c).After-take_wave-waves) at c.if-waves-ge-PLACES.true)))
 
 pub take_note-requires : goal.take_note-requires
 take_note-requires c = notes-few _ _ c.requires

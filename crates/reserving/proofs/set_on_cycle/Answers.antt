@@ -1,7 +1,7 @@
 -- `set_on_cycle`: both ends, with a cycle or none (Settling).
 use mathlib.Core.Path.{◌≡◌, sym, ap, ◌∙◌}
 use mathlib.Core.Bool.{Bool, true, cond, ◌&&◌, ◌||◌}
-use borrow.Author.Rules.{rules, sfits_of}
+use borrow.Author.Rules.{rules}
 use lib.Dec.{eqb}
 use mir.Syntax.{w32, w64}
 use mir.Val.{SFits}
@@ -16,12 +16,14 @@ use Rattle.cycles.specs.Due.{key}
 use Rattle.reserving.specs.declared.Kept.{Kept}
 use Rattle.reserving.specs.Setting.{cycle_of, cycle_room, with_cycle, only_removes, set_on_cycle}
 use Rattle.reserving.specs.Clearing.{refusal, reserving}
+use Rattle.numbers.specs.Refusals.{told}
+use Rattle.state.proofs.Told.{some-number}
 use Rattle.reserving.proofs.Refusing.{usable}
 use Rattle.reserving.proofs.Settling.{relisted, turned-away, settled}
-use Rattle.reserving.proofs.set_on_cycle.Goals.{After-asked-code}
+use Rattle.reserving.proofs.set_on_cycle.Goals.{After-asked}
 use Rattle.reserving.proofs.set_on_cycle.Goals as goal
 
-module _ (c : After-asked-code) where
+module _ (c : After-asked) where
   abbrev v : Listed
   v = c.numbers_of-listed.result
 
@@ -40,32 +42,32 @@ module _ (c : After-asked-code) where
   abbrev put : Numbers → Kept → Kept
   put x f = cond (gone x) f (with_cycle (made x) f)
 
-  code_is : c.asked-code.result ≡ refusal c.args.track c.args.size c.args.cycles c.args.target (eqb v.code 0) (ok v.list) true
+  code_is : told c.asked.result ≡ refusal c.args.track c.args.size c.args.cycles c.args.target (eqb v.code 0) (ok v.list) true
   code_is =
-      let tested : (c.is_length-a.result && c.numbers_ok-b.result) ≡ ok v.list =
-      both (is_at w32 is_length c.ranges.length.sfits c.is_length-a.ensures) c.numbers_ok-b.ensures in
-      rw (to_z-of_z c.ranges.target, tested) at c.asked-code.ensures
+      let tested : (c.is_length.result && c.numbers_ok.result) ≡ ok v.list =
+      both (is_at w32 is_length c.ranges.length.sfits c.is_length.ensures) c.numbers_ok.ensures in
+      rw (to_z-of_z c.ranges.target, tested) at c.asked.ensures
 
   whole : reserving c.args.track c.args.size c.args.cycles c.args.target (eqb v.code 0) (ok v.list) (room v.list) (put v.list)
       ≡ set_on_cycle c.args.track c.args.size c.args.cycles c.args.target c.args.length c.args.list.now
   unfolding set_on_cycle
   whole = relisted c.args.track c.args.size c.args.cycles c.args.target c.args.list.now ok room put c.numbers_of-listed.ensures
 
-pub returns-then-code-ne0 : goal.returns-then-code-ne0
-returns-then-code-ne0 c =
+pub returns-in-Err : goal.returns-in-Err
+returns-in-Err c =
     let a = c.args in
-    let d = (goal.at.returns-then-code-ne0 c).After-asked-code in
-    turned-away a.track a.size a.cycles a.target _ _ (room d (v d).list) (put d (v d).list) (code_is d) c.if-code-ne0.true ∙ whole d
+    let d = (goal.at.returns-in-Err c).After-asked in
+    rw c.number.ensures (turned-away a.track a.size a.cycles a.target _ _ (room d (v d).list) (put d (v d).list) (sym (ap told c.in-Err.is) ∙ code_is d) (some-number c.in-Err.refusal) ∙ whole d)
 
 pub put_in_cycles-requires : goal.put_in_cycles-requires
-put_in_cycles-requires c = usable _ _ _ _ _ _ _ (sym (code_is (goal.at.put_in_cycles-requires c).After-asked-code) ∙ c.if-code-ne0.false)
+put_in_cycles-requires c = usable _ _ _ _ _ _ _ (sym (code_is (goal.at.put_in_cycles-requires c).After-asked) ∙ (ap told c.in_default.is))
 
 pub returns : goal.returns
 returns c =
     let a = c.args in
-    let d = (goal.at.returns c).After-asked-code in
+    let d = (goal.at.returns c).After-asked in
     let f : SFits w64 a.track.timepos = search rules in
     let z = to_z-of_z c.ranges.target in
-    settled a.track a.size a.cycles a.target _ _ (room d (v d).list) (put d (v d).list) (code_is d) c.if-code-ne0.false
+    settled a.track a.size a.cycles a.target _ _ (room d (v d).list) (put d (v d).list) (code_is d) (ap told c.in_default.is)
     (rw (z, to_z-of_z c.ranges.length, to_z-of_z f, c.key_of-k.ensures ∙ ap key z) at c.put_in_cycles.ensures)
     ∙ whole d
