@@ -5,6 +5,7 @@
 
 ghost use Rattle.std.specs.Prelude.{◌≡◌, true, false, cond, ◌||◌, ◌<◌};
 ghost use Rattle.numbers.specs.Limits.{places};
+ghost use Rattle.numbers.specs.Refusals.{told};
 ghost use Rattle.cycles.specs.Turns.{option_of};
 ghost use Rattle.tables.specs.Tables.{cycles_with};
 ghost use Rattle.state.specs.Track.{with_tables};
@@ -12,12 +13,12 @@ ghost use Rattle.state.specs.Tests.{ok_lent};
 ghost use Rattle.reserving.specs.declared.Kept.{Kept};
 ghost use Rattle.reserving.specs.Clearing.{answer, refusal, cleared, placed};
 ghost use Rattle.reserving.specs.Setting.{note_room, wave_room, sine_room, cycle_room, with_note, with_wave, with_sine, with_cycle, remove_reserve, set_on_note, set_on_note_wave, set_on_note_sine, set_on_cycle};
-ghost use Rattle.reserving.specs.Old.{remove_cc_on, set_cc_on_note, set_cc_on_note_wave, set_pb_on_note_wave, remove_pb_on_note_wave, alone_refusal, remove_cc_on_note, remove_cc_on_note_wave};
+ghost use Rattle.reserving.specs.Old.{remove_cc_on, set_cc_on_note, set_cc_on_note_wave, set_pb_on_note_wave, remove_pb_on_note_wave, remove_cc_on_note, remove_cc_on_note_wave};
 
 use counted::{empty, numbers_of, numbers_ok};
 use cycles::{Cycle, PLACES, key_of};
-use drawing::{cc_target, pb_target};
-use numbers::{is_length, is_target};
+use drawing::{ask_target, cc_target, pb_target};
+use numbers::{Refusal, ask, is_length, is_target};
 use state::{OPTIONS, Track, TrackAnswer, cycles_of, lent_alone, track_ok};
 use tables::{
     CycleTable, NORMAL, NoteTable, OnNoteSine, OnNoteValues, OnNoteWave, SineTable, WaveTable,
@@ -34,7 +35,7 @@ pub struct Kept {
     pub cycles: [Cycle; PLACES],
 }
 
-// The number of a call, as far as it can be told before the old reservations are out: 1, 2, 3, 4 in this order.
+// What a call asks, as far as it can be told before the old reservations are out: 1, 2, 3, 4 in this order.
 fn asked(
     track: Track,
     size: usize,
@@ -42,30 +43,22 @@ fn asked(
     target: i32,
     short: bool,
     ok: bool,
-) -> u32
-    ensures { result ≡ refusal track size cycles target short ok true }
+) -> Result<(), Refusal>
+    ensures { told result ≡ refusal track size cycles target short ok true }
 {
-    if size != PLACES {
-        return 1;
-    }
-    if !is_target(target) {
-        return 2;
-    }
-    if !short {
-        return 3;
-    }
-    if !(track_ok(track) & ok) {
-        return 4;
-    }
+    ask(size == PLACES, Refusal::NotAList)?;
+    ask(is_target(target), Refusal::NoTarget)?;
+    ask(short, Refusal::TooMany)?;
+    ask(track_ok(track) & ok, Refusal::OutOfRange)?;
     let own = cycles_of(track, cycles);
-    if !lent_alone(track.notes, track.waves, track.sines, own) {
-        return 4;
-    }
-    0
+    ask(
+        lent_alone(track.notes, track.waves, track.sines, own),
+        Refusal::OutOfRange,
+    )
 }
 
 // The track and the table with these tables for their own. The tables are made first, each of its own part, so that the track is copied
-// once.
+// once. The cycles' array is a local, since the check takes no array straight from a field.
 fn with_tables(
     track: Track,
     notes: NoteTable,
@@ -107,12 +100,11 @@ fn cleared(track: Track, cycles: [Cycle; PLACES], k: usize) -> Kept
 pub fn remove_reserve(track: Track, size: usize, cycles: [Cycle; PLACES], target: i32) -> Kept
     ensures { result ≡ remove_reserve track size cycles target }
 {
-    let code = asked(track, size, cycles, target, true, true);
-    if code != 0 {
+    if let Err(refusal) = asked(track, size, cycles, target, true, true) {
         return Kept {
-            code: code,
-            track: track,
-            cycles: cycles,
+            code: refusal.number(),
+            track,
+            cycles,
         };
     }
     let k = key_of(target);
@@ -127,9 +119,9 @@ fn put_in_notes(track: Track, cycles: [Cycle; PLACES], k: usize, e: OnNoteValues
     let notes = track.notes.without(k);
     if PLACES <= notes.count {
         return Kept {
-            code: 6,
-            track: track,
-            cycles: cycles,
+            code: Refusal::NoPlace.number(),
+            track,
+            cycles,
         };
     }
     let own = cycles_of(track, cycles);
@@ -146,9 +138,7 @@ fn put_in_notes(track: Track, cycles: [Cycle; PLACES], k: usize, e: OnNoteValues
 fn repeat_of(options: [WriteOption; OPTIONS], target: i32) -> u32
     ensures { result ≡ (option_of options target).repeat }
 {
-    let k = key_of(target);
-    let option = options[k];
-    option.repeat
+    options[key_of(target)].repeat
 }
 
 // Reserves a value of a target for each of the next notes, round and round where its repeat stands. Refuses 1, 2, 3, 4, 6.
@@ -165,17 +155,16 @@ pub fn set_on_note(
     let values = listed.unwrap_or(empty());
     let options = track.options;
     let e = OnNoteValues {
-        target: target,
+        target,
         index: 0,
         cycling: repeat_of(options, target),
-        values: values,
+        values,
     };
-    let code = asked(track, size, cycles, target, listed.is_ok(), note_ok(e));
-    if code != 0 {
+    if let Err(refusal) = asked(track, size, cycles, target, listed.is_ok(), note_ok(e)) {
         return Kept {
-            code: code,
-            track: track,
-            cycles: cycles,
+            code: refusal.number(),
+            track,
+            cycles,
         };
     }
     let k = key_of(target);
@@ -190,9 +179,9 @@ fn put_in_waves(track: Track, cycles: [Cycle; PLACES], k: usize, e: OnNoteWave) 
     let waves = track.waves.without(k);
     if PLACES <= waves.count {
         return Kept {
-            code: 6,
-            track: track,
-            cycles: cycles,
+            code: Refusal::NoPlace.number(),
+            track,
+            cycles,
         };
     }
     let own = cycles_of(track, cycles);
@@ -220,16 +209,15 @@ pub fn set_on_note_wave(
     let listed = numbers_of(list);
     let values = listed.unwrap_or(empty());
     let e = OnNoteWave {
-        target: target,
-        mode: mode,
-        values: values,
+        target,
+        mode,
+        values,
     };
-    let code = asked(track, size, cycles, target, listed.is_ok(), wave_ok(e));
-    if code != 0 {
+    if let Err(refusal) = asked(track, size, cycles, target, listed.is_ok(), wave_ok(e)) {
         return Kept {
-            code: code,
-            track: track,
-            cycles: cycles,
+            code: refusal.number(),
+            track,
+            cycles,
         };
     }
     let k = key_of(target);
@@ -244,9 +232,9 @@ fn put_in_sines(track: Track, cycles: [Cycle; PLACES], k: usize, e: OnNoteSine) 
     let sines = track.sines.without(k);
     if PLACES <= sines.count {
         return Kept {
-            code: 6,
-            track: track,
-            cycles: cycles,
+            code: Refusal::NoPlace.number(),
+            track,
+            cycles,
         };
     }
     let own = cycles_of(track, cycles);
@@ -269,15 +257,13 @@ pub fn set_on_note_sine(
 ) -> Kept
     ensures { result ≡ set_on_note_sine track size cycles target sine }
 {
-    let a = sine_ok(sine);
-    let named = key_of(sine.target);
     let k = key_of(target);
-    let code = asked(track, size, cycles, target, true, a & (named == k));
-    if code != 0 {
+    let named = key_of(sine.target) == k;
+    if let Err(refusal) = asked(track, size, cycles, target, true, sine_ok(sine) & named) {
         return Kept {
-            code: code,
-            track: track,
-            cycles: cycles,
+            code: refusal.number(),
+            track,
+            cycles,
         };
     }
     put_in_sines(track, cycles, k, sine)
@@ -288,10 +274,7 @@ fn cycles_with(free: CycleTable, e: Cycle, gone: bool) -> CycleTable
     requires { gone ≡ false → free.count < places }
     ensures { result ≡ cond gone free (cycles_with free e) }
 {
-    if gone {
-        return free;
-    }
-    free.with(e)
+    if gone { free } else { free.with(e) }
 }
 
 // The same with a cycle, which stands in the lent table; with `gone` the old entries go and none is put.
@@ -303,9 +286,9 @@ fn put_in_cycles(track: Track, cycles: [Cycle; PLACES], k: usize, e: Cycle, gone
     let free = own.without(k);
     if !gone & (PLACES <= free.count) {
         return Kept {
-            code: 6,
-            track: track,
-            cycles: cycles,
+            code: Refusal::NoPlace.number(),
+            track,
+            cycles,
         };
     }
     with_tables(
@@ -330,25 +313,23 @@ pub fn set_on_cycle(
     ensures { result ≡ set_on_cycle track size cycles target length list.now }
 {
     let listed = numbers_of(list);
-    let values = listed.unwrap_or(empty());
-    let a = is_length(length);
-    let b = numbers_ok(values);
-    let code = asked(track, size, cycles, target, listed.is_ok(), a & b);
-    if code != 0 {
+    let values = listed.list;
+    let ok = is_length(length) & numbers_ok(values);
+    if let Err(refusal) = asked(track, size, cycles, target, listed.is_ok(), ok) {
         return Kept {
-            code: code,
-            track: track,
-            cycles: cycles,
+            code: refusal.number(),
+            track,
+            cycles,
         };
     }
     let k = key_of(target);
     let empty = values.count == 0;
     let e = Cycle {
-        target: target,
-        length: length,
+        target,
+        length,
         next: track.timepos,
         index: 0,
-        values: values,
+        values,
     };
     put_in_cycles(track, cycles, k, e, (length <= 0) | empty)
 }
@@ -357,8 +338,7 @@ pub fn set_on_cycle(
 pub fn remove_cc_on(track: Track, size: usize, cycles: [Cycle; PLACES], number: i32) -> Kept
     ensures { result ≡ remove_cc_on track size cycles number }
 {
-    let target = cc_target(number);
-    remove_reserve(track, size, cycles, target)
+    remove_reserve(track, size, cycles, cc_target(number))
 }
 
 // `set_on_note` of a controller. Refuses 1, 2, 3, 4, 6.
@@ -371,8 +351,7 @@ pub fn set_cc_on_note(
 ) -> Kept
     ensures { result ≡ set_cc_on_note track size cycles number list.now }
 {
-    let target = cc_target(number);
-    set_on_note(track, size, cycles, target, list)
+    set_on_note(track, size, cycles, cc_target(number), list)
 }
 
 // `set_on_note_wave` of a controller, the wave used as it is. Refuses 1, 2, 3, 4, 6.
@@ -385,8 +364,7 @@ pub fn set_cc_on_note_wave(
 ) -> Kept
     ensures { result ≡ set_cc_on_note_wave track size cycles number list.now }
 {
-    let target = cc_target(number);
-    set_on_note_wave(track, size, cycles, target, NORMAL, list)
+    set_on_note_wave(track, size, cycles, cc_target(number), NORMAL, list)
 }
 
 // `set_on_note_wave` of a bend by its argument, the wave used as it is. Refuses 1, 3, 4, 6.
@@ -399,8 +377,7 @@ pub fn set_pb_on_note_wave(
 ) -> Kept
     ensures { result ≡ set_pb_on_note_wave track size cycles big list.now }
 {
-    let target = pb_target(big);
-    set_on_note_wave(track, size, cycles, target, NORMAL, list)
+    set_on_note_wave(track, size, cycles, pb_target(big), NORMAL, list)
 }
 
 // `remove_reserve` of both bends. Refuses 1, 4.
@@ -410,37 +387,20 @@ pub fn remove_pb_on_note_wave(track: Track, size: usize, cycles: [Cycle; PLACES]
     remove_reserve(track, size, cycles, 129)
 }
 
-// The number of a call that is handed the track alone: 2, then 4.
-fn asked_alone(track: Track, target: i32) -> u32
-    ensures { result ≡ alone_refusal track target }
-{
-    if !is_target(target) {
-        return 2;
-    }
-    if !track_ok(track) {
-        return 4;
-    }
-    0
-}
-
 // No list for notes stays reserved for a controller; what is of another kind stays. Refuses 2, 4.
 pub fn remove_cc_on_note(mut track: Track, number: i32) -> TrackAnswer
     ensures { result ≡ remove_cc_on_note track number }
 {
     let target = cc_target(number);
-    let code = asked_alone(track, target);
-    if code != 0 {
+    if let Err(refusal) = ask_target(target, track_ok(track)) {
         return TrackAnswer {
-            code: code,
-            track: track,
+            code: refusal.number(),
+            track,
         };
     }
     let key = key_of(target);
     track.notes = track.notes.without(key);
-    TrackAnswer {
-        code: 0,
-        track: track,
-    }
+    TrackAnswer { code: 0, track }
 }
 
 // No wave and no sine stays reserved for a controller; what is of another kind stays. Refuses 2, 4.
@@ -448,18 +408,14 @@ pub fn remove_cc_on_note_wave(mut track: Track, number: i32) -> TrackAnswer
     ensures { result ≡ remove_cc_on_note_wave track number }
 {
     let target = cc_target(number);
-    let code = asked_alone(track, target);
-    if code != 0 {
+    if let Err(refusal) = ask_target(target, track_ok(track)) {
         return TrackAnswer {
-            code: code,
-            track: track,
+            code: refusal.number(),
+            track,
         };
     }
     let key = key_of(target);
     track.waves = track.waves.without(key);
     track.sines = track.sines.without(key);
-    TrackAnswer {
-        code: 0,
-        track: track,
-    }
+    TrackAnswer { code: 0, track }
 }

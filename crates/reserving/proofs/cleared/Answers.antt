@@ -1,7 +1,6 @@
 -- `cleared`: each table as its own call leaves it.
 use native.Mathlib.Omega.{arith}
 use mathlib.Core.Path.{ap, ◌∙◌}
-use borrow.Author.Rules.{rules}
 use Rattle.tables.specs.Tables.{CycleTable}
 use Rattle.tables.specs.Tables.{cycles_without}
 use Rattle.state.proofs.Lent.{notes-few, waves-few, sines-few, cycles-few}

@@ -53,8 +53,8 @@ pub returns-then-gone-free : goal.returns-then-gone-free
 unfolding cleared
 returns-then-gone-free c =
     let s = c.args in
-    no_place s.track s.cycles (λ (f : Kept). s.gone || cycle_room f) (λ (f : Kept). cond s.gone f (with_cycle s.e f)) (cleared s.track s.cycles s.k) refl
-    (full s.gone (rest s.track s.cycles s.k s.e).count (rw (freed (goal.at.returns-then-gone-free c).After-without-free) at c.if-gone-free.true))
+    rw c.number.ensures (no_place s.track s.cycles (λ (f : Kept). s.gone || cycle_room f) (λ (f : Kept). cond s.gone f (with_cycle s.e f)) (cleared s.track s.cycles s.k) refl
+    (full s.gone (rest s.track s.cycles s.k s.e).count (rw (freed (goal.at.returns-then-gone-free c).After-without-free) at c.if-gone-free.true)))
 
 pub without-requires : goal.without-requires
 without-requires c = (omega arith, notes-few _ _ c.requires)

@@ -23,8 +23,8 @@ pub returns-then-notes-ge-PLACES : goal.returns-then-notes-ge-PLACES
 unfolding cleared
 returns-then-notes-ge-PLACES c =
     let s = c.args in
-    no_place s.track s.cycles note_room (with_note s.e) (cleared s.track s.cycles s.k) refl
-    (le-ltb _ _ (rw (left-count (goal.at.returns-then-notes-ge-PLACES c).After-without-notes) at c.if-notes-ge-PLACES.true))
+    rw c.number.ensures (no_place s.track s.cycles note_room (with_note s.e) (cleared s.track s.cycles s.k) refl
+    (le-ltb _ _ (rw (left-count (goal.at.returns-then-notes-ge-PLACES c).After-without-notes) at c.if-notes-ge-PLACES.true)))
 
 pub without-requires : goal.without-requires
 without-requires c = (omega arith, waves-few _ _ c.requires)

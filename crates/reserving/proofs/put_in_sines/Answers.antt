@@ -23,8 +23,8 @@ pub returns-then-sines-ge-PLACES : goal.returns-then-sines-ge-PLACES
 unfolding cleared
 returns-then-sines-ge-PLACES c =
     let s = c.args in
-    no_place s.track s.cycles sine_room (with_sine s.e) (cleared s.track s.cycles s.k) refl
-    (le-ltb _ _ (rw (left-count (goal.at.returns-then-sines-ge-PLACES c).After-without-sines) at c.if-sines-ge-PLACES.true))
+    rw c.number.ensures (no_place s.track s.cycles sine_room (with_sine s.e) (cleared s.track s.cycles s.k) refl
+    (le-ltb _ _ (rw (left-count (goal.at.returns-then-sines-ge-PLACES c).After-without-sines) at c.if-sines-ge-PLACES.true)))
 
 pub without-requires : goal.without-requires
 without-requires c = (omega arith, notes-few _ _ c.requires)

@@ -23,8 +23,8 @@ pub returns-then-waves-ge-PLACES : goal.returns-then-waves-ge-PLACES
 unfolding cleared
 returns-then-waves-ge-PLACES c =
     let s = c.args in
-    no_place s.track s.cycles wave_room (with_wave s.e) (cleared s.track s.cycles s.k) refl
-    (le-ltb _ _ (rw (left-count (goal.at.returns-then-waves-ge-PLACES c).After-without-waves) at c.if-waves-ge-PLACES.true))
+    rw c.number.ensures (no_place s.track s.cycles wave_room (with_wave s.e) (cleared s.track s.cycles s.k) refl
+    (le-ltb _ _ (rw (left-count (goal.at.returns-then-waves-ge-PLACES c).After-without-waves) at c.if-waves-ge-PLACES.true)))
 
 pub without-requires : goal.without-requires
 without-requires c = (omega arith, notes-few _ _ c.requires)

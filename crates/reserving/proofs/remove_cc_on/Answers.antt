@@ -10,4 +10,4 @@ use Rattle.reserving.proofs.remove_cc_on.Goals as goal
 pub returns : goal.returns
 returns c =
     c.remove_reserve.ensures
-    ∙ ap (λ (z : ℤ). remove_reserve c.args.track c.args.size c.args.cycles z) (handed w32 cc_target c.cc_target-target.type_inv c.ranges.number c.cc_target-target.ensures)
+    ∙ ap (λ (z : ℤ). remove_reserve c.args.track c.args.size c.args.cycles z) (handed w32 cc_target c.cc_target.type_inv c.ranges.number c.cc_target.ensures)

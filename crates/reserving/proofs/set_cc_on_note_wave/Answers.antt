@@ -10,4 +10,4 @@ use Rattle.reserving.proofs.set_cc_on_note_wave.Goals as goal
 pub returns : goal.returns
 returns c =
     c.set_on_note_wave.ensures
-    ∙ ap (λ (z : ℤ). set_on_note_wave c.args.track c.args.size c.args.cycles z 0 c.args.list.now) (handed w32 cc_target c.cc_target-target.type_inv c.ranges.number c.cc_target-target.ensures)
+    ∙ ap (λ (z : ℤ). set_on_note_wave c.args.track c.args.size c.args.cycles z 0 c.args.list.now) (handed w32 cc_target c.cc_target.type_inv c.ranges.number c.cc_target.ensures)
