@@ -313,7 +313,7 @@ pub fn set_on_cycle(
     ensures { result ≡ set_on_cycle track size cycles target length list.now }
 {
     let listed = numbers_of(list);
-    let values = listed.list;
+    let values = listed.unwrap_or(empty());
     let ok = is_length(length) & numbers_ok(values);
     if let Err(refusal) = asked(track, size, cycles, target, listed.is_ok(), ok) {
         return Kept {
