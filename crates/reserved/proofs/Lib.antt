@@ -6,3 +6,4 @@ pub mod Turns
 pub mod Starts
 pub mod Kept
 pub mod Laid
+pub mod Saying

@@ -35,8 +35,9 @@ use Rattle.notes.specs.contracts as notes
 use Rattle.cutting.specs.contracts as cutting
 use Rattle.sines.specs.contracts as sines
 use Rattle.sines.proofs.Named.{kind-once}
-use Rattle.reserved.specs.declared.CycleValue.{CycleValue}
-use Rattle.reserved.specs.declared.CycleValue.TheVariants.{Value, Nothing, Refused}
+use Rattle.std.proofs.Common.{Option, Result}
+use Rattle.numbers.specs.declared.refusals.Refusal.{Refusal}
+use Rattle.reserved.proofs.Saying.{same_case}
 use Rattle.laws.specs.Answers.{Said}
 use Rattle.reserved.specs.Cycle.{said}
 use Rattle.reserved.specs.Reserve.{first_or}
@@ -90,22 +91,8 @@ module _ {M : Type 1} (𝓤 : Ura M) where
 agree : {A : Type 0} {d x y : A} → x ≡ d → y ≡ d → x ≡ y
 agree p q = p ∙ sym q
 
--- ---- a cycle's value: what is said of two cases differs in how many values there are, or in the number
-told-apart : (s t : Said) → s ≡ t → (length s.values ≡ length t.values) × (s.number ≡ t.number)
-told-apart s t e = (ap (λ (x : Said). length x.values) e, ap (λ (x : Said). x.number) e)
-
-same_case : (x y : CycleValue) → said x ≡ said y → x ≡ y
-same_case (Value v) (Value w) e = ap Value (ap (λ (s : Said). first_or (pos 0) s.values) e)
-same_case (Value v) Nothing e = absurd (omega (arith, (told-apart _ _ e).0))
-same_case (Value v) Refused e = absurd (omega (arith, (told-apart _ _ e).0))
-same_case Nothing (Value w) e = absurd (omega (arith, (told-apart _ _ e).0))
-same_case Nothing Nothing e = refl
-same_case Nothing Refused e = absurd (omega (arith, (told-apart _ _ e).1))
-same_case Refused (Value w) e = absurd (omega (arith, (told-apart _ _ e).0))
-same_case Refused Nothing e = absurd (omega (arith, (told-apart _ _ e).1))
-same_case Refused Refused e = refl
-
-pub said-once : (s : Said) (x y : CycleValue) → said x ≡ s → said y ≡ s → x ≡ y
+-- ---- a cycle's value: what is said tells it
+pub said-once : (s : Said) (x y : Result (Option ℤ) Refusal) → said x ≡ s → said y ≡ s → x ≡ y
 said-once s x y p q = same_case x y (p ∙ sym q)
 
 -- ---- each call

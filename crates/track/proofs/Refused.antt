@@ -28,8 +28,10 @@ use Rattle.events.specs.Events.{zero_event, ok_event, refused, note_event, voice
 use Rattle.reserved.specs.declared.Taken.{Taken}
 use Rattle.reserved.specs.declared.OnCycleTime.{OnCycleTime}
 use Rattle.reserved.specs.declared.CycleTimeAnswer.{CycleTimeAnswer}
-use Rattle.reserved.specs.declared.CycleValue.{CycleValue}
-use Rattle.reserved.specs.declared.CycleValue.TheVariants.{Value, Nothing, Refused}
+use Rattle.std.proofs.Common.{Option, Some, None, Result, Ok, Err}
+use Rattle.numbers.specs.declared.refusals.Refusal.{Refusal}
+use Rattle.numbers.specs.declared.refusals.Refusal.TheVariants.{OutOfRange}
+use Rattle.reserved.proofs.Saying.{calc-refused}
 use Rattle.reserved.specs.Cycle.{said, calc_of}
 use Rattle.reserved.specs.Cycle as timed
 use Rattle.reserved.specs.Setting.{demand, list_demand, cycle_time, no_cycle_time, new_cycle_time}
@@ -403,7 +405,7 @@ pub of-records : OfRecords
 of-records = record { budget-new = no-budget; on-note-sine-new = no-sine; on-cycle-time-new = no-cycle-time }
 
 -- ---- a cycle's value: the answer is an enum, whose number `said` gives
-pub of-cycle : (c : OnCycleTime) (timepos : ℤ) (r : CycleValue) → said r ≡ calc_of c timepos → ((said r).number ≡ 0 → ⊥) → r ≡ Refused
-of-cycle c timepos (Value v) e h = absurd (h refl)
-of-cycle c timepos Nothing e h = absurd (h refl)
-of-cycle c timepos Refused e h = refl
+pub of-cycle : (c : OnCycleTime) (timepos : ℤ) (r : Result (Option ℤ) Refusal) → said r ≡ calc_of c timepos → ((said r).number ≡ 0 → ⊥) → r ≡ Err OutOfRange
+of-cycle c timepos (Ok (Some v)) e h = absurd (h refl)
+of-cycle c timepos (Ok None) e h = absurd (h refl)
+of-cycle c timepos (Err r) e h = ap Err (calc-refused c timepos r e)

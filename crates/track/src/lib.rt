@@ -61,7 +61,7 @@ pub use cycles::Cycle;
 pub use events::{Event, Made, Size};
 pub use layers::Layers;
 pub use params::{NoteParam, ParamAnswer, ParamValue, Told};
-pub use reserved::{CycleTimeAnswer, CycleValue, OnCycleTime};
+pub use reserved::{CycleTimeAnswer, OnCycleTime};
 pub use sines::SineType;
 use state::track_ok;
 use values::widened;
