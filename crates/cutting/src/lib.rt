@@ -20,8 +20,7 @@ ghost use Rattle.cutting.specs.ByTime.{replacing, stood, none_stands, last_in, e
 
 use eventlist::{Taken, WIDTH, append, clear_from, list_ok, read_event, records_ok, write_event};
 use events::{
-    CONTROL_CHANGE, Event, META, NOTE_ON, PITCH_BEND, SYS_EX, VOICE, cc_event, event_ok,
-    voice_event, zero_event,
+    CONTROL_CHANGE, Event, Kind, PITCH_BEND, VOICE, cc_event, event_ok, voice_event, zero_event,
 };
 use numbers::{is_channel, is_controller, is_event_time, is_time};
 use sorting::rotate_events;
@@ -58,9 +57,7 @@ fn value_in(events: &[i64], count: usize, a: Asked) -> i64
     requires { count ≤ length (rows_of events.now) }
     ensures { result ≡ cc_value a (events_of events.now count) }
 {
-    let mut i = count;
-    while 0 < i {
-        i -= 1;
+    for i in (0..count).rev() {
         let e = read_event(events, i);
         if is_asked(e, a) {
             return e.v2;
@@ -99,9 +96,9 @@ pub fn current_cc_value(
         return CcValue { code: 4, value: 0 };
     }
     let a = Asked {
-        channel: channel,
+        channel,
         time: timepos,
-        number: number,
+        number,
     };
     CcValue {
         code: 0,
@@ -120,25 +117,23 @@ pub struct Cut {
 }
 
 // Whether the cut keeps the event.
+#[tactic(auto, unfolding(crate::specs::Cuts::keeps, events::specs::Kinds::is_kind, laws::specs::Integers::inside))]
 fn is_kept(e: Event, c: Cut) -> bool
     ensures { result ≡ keeps c e }
 {
-    let kind = e.kind;
-    match kind {
-        META => true,
-        SYS_EX => true,
-        NOTE_ON | CONTROL_CHANGE | VOICE => c.at <= e.time,
-        PITCH_BEND => c.full & (c.at <= e.time),
+    match Kind::try_from(e.kind) {
+        Ok(Kind::Meta | Kind::SysEx) => true,
+        Ok(Kind::NoteOn | Kind::ControlChange | Kind::Voice) => c.at <= e.time,
+        Ok(Kind::PitchBend) => c.full & (c.at <= e.time),
         _ => false,
     }
 }
 
 // The event at another time.
-fn at_time(mut e: Event, time: i64) -> Event
+fn at_time(e: Event, time: i64) -> Event
     ensures { result ≡ with_time time e }
 {
-    e.time = time;
-    e
+    Event { time, ..e }
 }
 
 // A kept event, its time counted from the cut.
@@ -173,12 +168,10 @@ fn all_fit(events: &[i64], count: usize, c: Cut, store: usize) -> bool
     requires { (count ≤ length (rows_of events.now)) × (is_time c.at ≡ true) }
     ensures { result ≡ all (fits_cut store c) (events_of events.now count) }
 {
-    let mut i: usize = 0;
-    while i < count {
+    for i in 0..count {
         if !fits(read_event(events, i), c, store) {
             return false;
         }
-        i += 1;
     }
     true
 }
@@ -254,12 +247,10 @@ fn remember(events: &[i64], count: usize, c: Cut, values: &mut [i64; 128]) -> La
         bent: false,
         bend: zero_event(),
     };
-    let mut i: usize = 0;
-    while i < count {
+    for i in 0..count {
         let e = read_event(events, i);
         last = note(last, e, c);
         note_value(values, e, c);
-        i += 1;
     }
     last
 }
@@ -412,12 +403,10 @@ fn remember_latest(
         × (Holds (control_at c.at (stable_sort earlier (events_of events.now count))) values.new) }
 {
     let mut s = none_stands();
-    let mut i: usize = 0;
-    while i < count {
+    for i in 0..count {
         let e = read_event(events, i);
         s = stand(s, e, c);
         note_latest(values, times, e, c);
-        i += 1;
     }
     last_of(s)
 }
@@ -442,16 +431,12 @@ fn keep(events: &mut [i64], count: usize, c: Cut) -> usize
     ensures { (result ≡ length (kept_of c (events_of events.old count)))
         × (rows_of events.new ≡ put_first zero_event count (kept_of c (events_of events.old count)) (rows_of events.old)) }
 {
-    let mut i: usize = 0;
     let mut n: usize = 0;
-    while i < count {
+    for i in 0..count {
         let e = read_event(events, i);
         if is_kept(e, c) {
             write_event(events, n, shift(e, c));
             n += 1;
-            i += 1;
-        } else {
-            i += 1;
         }
     }
     clear_from(events, n, count);
@@ -484,9 +469,10 @@ fn put_program(events: &mut [i64], count: usize, last: Last) -> usize
     ensures { (result ≡ count + length (program_in last)) × (rows_of events.new ≡ with_more events.old count (program_in last)) }
 {
     if last.program < 0 {
-        return count;
+        count
+    } else {
+        append(events, count, voice_event(0, last.channel, last.program))
     }
-    append(events, count, voice_event(0, last.channel, last.program))
 }
 
 // The same, in the full cut, for the bend.
@@ -494,11 +480,11 @@ fn put_bend(events: &mut [i64], count: usize, c: Cut, last: Last) -> usize
     requires { count + length (bend_in c last) ≤ length (rows_of events.old) }
     ensures { (result ≡ count + length (bend_in c last)) × (rows_of events.new ≡ with_more events.old count (bend_in c last)) }
 {
-    let bend = last.bend;
     if c.full & last.bent {
-        return append(events, count, at_time(bend, 0));
+        append(events, count, at_time(last.bend, 0))
+    } else {
+        count
     }
-    count
 }
 
 // How many events a cut keeps, and how many it leaves with those that it folds.
@@ -520,7 +506,7 @@ fn fold(events: &mut [i64], count: usize, c: Cut) -> Parts
     let n = put_controls(events, kept, &values, last);
     let m = put_program(events, n, last);
     Parts {
-        kept: kept,
+        kept,
         count: put_bend(events, m, c, last),
     }
 }

@@ -6,7 +6,4 @@ use Rattle.cutting.specs.Cuts.{fits_cut}
 use Rattle.cutting.proofs.all_fit.Given as goal
 
 abbrev pub invariant-loop-i : goal.invariant-loop-i
-invariant-loop-i l = (l.i ≤ l.count) × Left (fits_cut l.store l.c) (events_of l.events l.count) l.i
-
-abbrev pub decreases-loop-i : goal.decreases-loop-i
-decreases-loop-i l = l.count - l.i
+invariant-loop-i l = Left (fits_cut l.store l.c) (events_of l.events l.count) l.i

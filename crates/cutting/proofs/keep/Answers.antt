@@ -17,6 +17,7 @@ use Rattle.cutting.specs.Cuts.{keeps, shifted}
 use Rattle.cutting.specs.Passes.{sound}
 use Rattle.laws.proofs.Moving.{Moving, n-le, still, pass, move, settled, changed, changed-few, changed-pass, changed-move}
 use Rattle.cutting.proofs.Stored.{sound-time}
+use Rattle.cutting.proofs.keep.Goals.{then-is_kept, else-is_kept}
 use Rattle.cutting.proofs.keep.Goals as goal
 
 abbrev out : Cut → Event → Bool
@@ -54,28 +55,27 @@ write_event-requires c =
 pub overflow_add-n : goal.overflow_add-n
 overflow_add-n c = omega (arith, n-at c.args.c c.loop-i.invariant c.requires.0)
 
-pub loop-i-preserved-then-is_kept : goal.loop-i-preserved-then-is_kept
-loop-i-preserved-then-is_kept c =
-    let l₀ = c.args.events.now in
-    let k = c.args.c in
-    let v = c.loop-i.invariant in
-    let o = c.read_event-e.ensures ∙ original k v c.requires.0 in
-    move rows_of zero_event (front k l₀) l₀ c.loop-i.events c.args.count c.loop-i.i c.loop-i.n v (few k v c.requires.0) c.requires.0 (omega arith)
-    (shifted k (get_or (rows_of l₀) c.loop-i.i zero_event))
-    (changed-move zero_event (shifted k) (out k) (rows_of l₀) c.loop-i.i (let p = c.requires.0 in omega arith)
-    (ap not (sym (ap (keeps k) o) ∙ sym c.is_kept.ensures ∙ c.if-is_kept.true)))
-    c.write_event.new.events c.write_event.auto.events
-    (c.write_event.ensures ∙ ap (λ (x : Event). set (rows_of c.loop-i.events) c.loop-i.n x) (c.shift.ensures ∙ ap (shifted k) o))
-
 pub loop-i-preserved : goal.loop-i-preserved
 loop-i-preserved c =
     let l₀ = c.args.events.now in
     let k = c.args.c in
     let v = c.loop-i.invariant in
     let o = c.read_event-e.ensures ∙ original k v c.requires.0 in
-    pass rows_of zero_event (front k l₀) l₀ c.loop-i.events c.args.count c.loop-i.i c.loop-i.n v (few k v c.requires.0) c.requires.0 (omega arith)
-    (changed-pass zero_event (shifted k) (out k) (rows_of l₀) c.loop-i.i (let p = c.requires.0 in omega arith)
-    (ap not (sym (ap (keeps k) o) ∙ sym c.is_kept.ensures ∙ c.if-is_kept.false)))
+    elim c.if-is_kept.branch [
+      | then-is_kept w ↦
+          rw (w.events-is, w.n-is)
+          (move rows_of zero_event (front k l₀) l₀ c.loop-i.events c.args.count c.loop-i.i c.loop-i.n v (few k v c.requires.0) c.requires.0 (omega arith)
+          (shifted k (get_or (rows_of l₀) c.loop-i.i zero_event))
+          (changed-move zero_event (shifted k) (out k) (rows_of l₀) c.loop-i.i (let p = c.requires.0 in omega arith)
+          (ap not (sym (ap (keeps k) o) ∙ sym c.is_kept.ensures ∙ w.if-is_kept.true)))
+          w.write_event.new.events w.write_event.auto.events
+          (w.write_event.ensures ∙ ap (λ (x : Event). set (rows_of c.loop-i.events) c.loop-i.n x) (w.shift.ensures ∙ ap (shifted k) o)))
+      | else-is_kept w ↦
+          rw (w.events-is, w.n-is)
+          (pass rows_of zero_event (front k l₀) l₀ c.loop-i.events c.args.count c.loop-i.i c.loop-i.n v (few k v c.requires.0) c.requires.0 (omega arith)
+          (changed-pass zero_event (shifted k) (out k) (rows_of l₀) c.loop-i.i (let p = c.requires.0 in omega arith)
+          (ap not (sym (ap (keeps k) o) ∙ sym c.is_kept.ensures ∙ w.if-is_kept.false))))
+    ]
 
 pub clear_from-requires : goal.clear_from-requires
 clear_from-requires c =

@@ -10,6 +10,3 @@ use Rattle.cutting.proofs.keep.Given as goal
 
 abbrev pub invariant-loop-i : goal.invariant-loop-i
 invariant-loop-i l = Moving rows_of zero_event (changed zero_event (shifted l.c) (λ e. not (keeps l.c e)) (rows_of l.initial.events)) l.initial.events l.events l.count l.i l.n
-
-abbrev pub decreases-loop-i : goal.decreases-loop-i
-decreases-loop-i l = l.count - l.i

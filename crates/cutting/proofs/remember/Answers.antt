@@ -22,12 +22,9 @@ pub loop-i-preserved : goal.loop-i-preserved
 loop-i-preserved c =
     let rows = rows_of c.args.events.now in
     let number = sound-number (get_or rows c.loop-i.i zero_event) (all-below sound rows c.args.count c.loop-i.i zero_event c.requires.1.0 (omega arith) c.requires.0) in (
-      omega arith,
-      (
-        c.note-last.ensures
-            ∙ ap₂ (noted c.args.c.at) c.loop-i.invariant.1.0 c.read_event-e.ensures
-            ∙ lasts-more c.args.c.at rows c.loop-i.i (omega arith),
-        rw (c.note_value.ensures, c.read_event-e.ensures)
-            (holds_more c.args.c.at rows c.loop-i.i (omega arith) c.loop-i.values c.loop-i.invariant.1.1 number),
-      ),
+      c.note-last.ensures
+          ∙ ap₂ (noted c.args.c.at) c.loop-i.invariant.0 c.read_event-e.ensures
+          ∙ lasts-more c.args.c.at rows c.loop-i.i (omega arith),
+      rw (c.note_value.ensures, c.read_event-e.ensures)
+          (holds_more c.args.c.at rows c.loop-i.i (omega arith) c.loop-i.values c.loop-i.invariant.1 number),
     )

@@ -10,7 +10,4 @@ use Rattle.cutting.proofs.remember.Given as goal
 
 abbrev pub invariant-loop-i : goal.invariant-loop-i
 invariant-loop-i l =
-    (l.i ≤ l.count) × ((l.last ≡ lasts_of l.c.at (take l.i (rows_of l.events))) × Holds (control_at l.c.at (take l.i (rows_of l.events))) l.values)
-
-abbrev pub decreases-loop-i : goal.decreases-loop-i
-decreases-loop-i l = l.count - l.i
+    (l.last ≡ lasts_of l.c.at (take l.i (rows_of l.events))) × Holds (control_at l.c.at (take l.i (rows_of l.events))) l.values

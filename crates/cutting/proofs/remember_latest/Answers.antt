@@ -26,16 +26,13 @@ pub loop-i-preserved : goal.loop-i-preserved
 loop-i-preserved c =
     let rows = rows_of c.args.events.now in
     let well = all-below sound rows c.args.count c.loop-i.i zero_event c.requires.1.0 (omega arith) c.requires.0 in
-    let latest = holds-latest c.args.c.at rows c.loop-i.i (omega arith) c.loop-i.times well c.loop-i.invariant.1.1.1 in (
-      omega arith,
+    let latest = holds-latest c.args.c.at rows c.loop-i.i (omega arith) c.loop-i.times well c.loop-i.invariant.1.1 in (
+      c.stand-s.ensures
+          ∙ ap₂ (stood c.args.c.at) c.loop-i.invariant.0 c.read_event-e.ensures
+          ∙ stood-more rows c.loop-i.i (omega arith) c.args.c.at,
       (
-        c.stand-s.ensures
-            ∙ ap₂ (stood c.args.c.at) c.loop-i.invariant.1.0 c.read_event-e.ensures
-            ∙ stood-more rows c.loop-i.i (omega arith) c.args.c.at,
-        (
-          rw (c.note_latest.ensures.0, c.read_event-e.ensures) (latest (λ x. x.v2) unset c.loop-i.values c.loop-i.invariant.1.1.0),
-          rw (c.note_latest.ensures.1, c.read_event-e.ensures) (latest (λ x. x.time) earliest c.loop-i.times c.loop-i.invariant.1.1.1),
-        ),
+        rw (c.note_latest.ensures.0, c.read_event-e.ensures) (latest (λ x. x.v2) unset c.loop-i.values c.loop-i.invariant.1.0),
+        rw (c.note_latest.ensures.1, c.read_event-e.ensures) (latest (λ x. x.time) earliest c.loop-i.times c.loop-i.invariant.1.1),
       ),
     )
 
@@ -43,5 +40,5 @@ pub returns : goal.returns
 returns c =
     let t = c.args in
     let all : c.loop-i.i ≡ t.count = omega arith in
-    let inv = rw all at c.loop-i.invariant.1 in
+    let inv = rw all at c.loop-i.invariant in
     (c.last_of.ensures ∙ ap last_in inv.0 ∙ standing-last t.c.at (stable_sort earlier (take t.count (rows_of t.events.now))), inv.1.0)

@@ -13,10 +13,6 @@ use Rattle.cutting.proofs.remember_latest.Given as goal
 
 abbrev pub invariant-loop-i : goal.invariant-loop-i
 invariant-loop-i l =
-    (l.i ≤ l.count)
-    × ((l.s ≡ standing_at l.c.at (stable_sort earlier (take l.i (rows_of l.events))))
+    (l.s ≡ standing_at l.c.at (stable_sort earlier (take l.i (rows_of l.events))))
     × (Holds (control_at l.c.at (stable_sort earlier (take l.i (rows_of l.events)))) l.values
-    × Holds (time_at l.c.at (stable_sort earlier (take l.i (rows_of l.events)))) l.times))
-
-abbrev pub decreases-loop-i : goal.decreases-loop-i
-decreases-loop-i l = l.count - l.i
+    × Holds (time_at l.c.at (stable_sort earlier (take l.i (rows_of l.events)))) l.times)

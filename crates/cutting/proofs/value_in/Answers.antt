@@ -26,14 +26,12 @@ told a rows i e t z h is q =
 pub returns-then-is_asked : goal.returns-then-is_asked
 returns-then-is_asked c =
     back w64 c.read_event-e.result.v2 (omega arith)
-    ∙ sym (c.loop-i.invariant.1
+    ∙ sym (c.loop-i.invariant
     ∙ told c.args.a (rows_of c.args.events.now) c.loop-i.i c.read_event-e.result _ (omega arith) (omega arith) c.read_event-e.ensures
     (sym c.is_asked.ensures ∙ c.if-is_asked.true))
 
 pub loop-i-preserved : goal.loop-i-preserved
 loop-i-preserved c = (
-  omega arith,
-  c.loop-i.invariant.1
-      ∙ told c.args.a (rows_of c.args.events.now) c.loop-i.i c.read_event-e.result _ (omega arith) (omega arith) c.read_event-e.ensures
-      (sym c.is_asked.ensures ∙ c.if-is_asked.false),
-)
+    c.loop-i.invariant
+    ∙ told c.args.a (rows_of c.args.events.now) c.loop-i.i c.read_event-e.result _ (omega arith) (omega arith) c.read_event-e.ensures
+    (sym c.is_asked.ensures ∙ c.if-is_asked.false))

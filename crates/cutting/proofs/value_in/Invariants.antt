@@ -7,7 +7,4 @@ use Rattle.cutting.specs.Value.{cc_value}
 use Rattle.cutting.proofs.value_in.Given as goal
 
 abbrev pub invariant-loop-i : goal.invariant-loop-i
-invariant-loop-i l = (l.i ≤ l.count) × (cc_value l.a (events_of l.events l.count) ≡ cc_value l.a (take l.i (rows_of l.events)))
-
-abbrev pub decreases-loop-i : goal.decreases-loop-i
-decreases-loop-i l = l.i
+invariant-loop-i l = cc_value l.a (events_of l.events l.count) ≡ cc_value l.a (take l.i (rows_of l.events))
