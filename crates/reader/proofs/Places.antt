@@ -23,11 +23,6 @@ Answers r says = record { at_each_time : (t : ℕ) → tells t r ≡ says t; gap
 pub answered : (r : Found) {f g : ℕ → Seen Event} → Answers r f → ((t : ℕ) → f t ≡ g t) → Answers r g
 answered r a same = record { at_each_time = λ t. a.at_each_time t ∙ same t; gap_lt_quantity_top = a.gap_lt_quantity_top }
 
--- what is not known is no event
-pub unknown : (r : Found) (n : ℕ) {P : Type 0} → Answers r (λ t. fault (suc n)) → r.code ≡ 0 → P
-unfolding tells
-unknown r n a z = absurd (omega (arith, ap (λ (s : Seen Event). s.code) (a.at_each_time 0), z))
-
 -- ---- a place
 module _ (s : List ℕ) (from used : ℕ) where
   pub none_left : length s ≤ from + used → drop (from + used) s ≡ []

@@ -3,7 +3,7 @@
 // chunk that is well to its last byte, and whose events have room, is read into the list, by a second pass over the same steps.
 #![tactic(auto)]
 
-ghost use Rattle.std.specs.Prelude.{◌≡◌, true, false, cond, [], ◌∷◌, ℕ, ◌+◌, ◌*◌, ◌%◌, ◌≤◌, ◌<◌, pos, eqb, length, take, drop};
+ghost use Rattle.std.specs.Prelude.{◌≡◌, true, false, cond, [], ◌∷◌, ℕ, ◌+◌, ◌*◌, ◌%◌, ◌≤◌, ◌<◌, pos, eqb, length, take, drop, IfSome};
 ghost use Rattle.events.specs.Kinds.{note_on, note_off};
 ghost use Rattle.events.specs.Events.{plain_event};
 ghost use Rattle.eventlist.specs.Rows.{rows_of};
@@ -246,9 +246,6 @@ fn event_at(s: &[u8], from: usize, running: u64) -> Found
     status_at(s, from, n.used, n.value, running)
 }
 
-// What `quick_at` answers where it is not known.
-const UNKNOWN: u32 = 2;
-
 // Whether a status is a channel's and has two data bytes.
 fn is_double(status: u64) -> bool
     ensures { result ≡ true → Double status }
@@ -265,35 +262,41 @@ fn is_told(status: u64) -> bool
 }
 
 // A message of two data bytes, the first of which is known, where it is one.
-fn quick_second(s: &[u8], from: usize, used: usize, gap: u64, status: u64, first: u8) -> Found
+fn quick_second(
+    s: &[u8],
+    from: usize,
+    used: usize,
+    gap: u64,
+    status: u64,
+    first: u8,
+) -> Option<Found>
     requires { (from + used < length s.now) × (gap < quantity_top) }
-    ensures double { result.code ≡ 0 → Double status × ((t : ℕ) → Counts t result (is_told result.status))
-        × ((t : ℕ) → tells t result ≡ second_in kept_in status (t + gap) gap used first (drop (from + used) s.now)) }
-    ensures gap_lt_quantity_top { result.gap < quantity_top }
+    ensures { IfSome result (λ f. (f.code ≡ 0) × (f.gap < quantity_top) × Double status × ((t : ℕ) → Counts t f (is_told f.status))
+        × ((t : ℕ) → tells t f ≡ second_in kept_in status (t + gap) gap used first (drop (from + used) s.now))) }
 {
     if !is_double(status) {
-        return faulty(UNKNOWN);
+        return None;
     }
     let second = s[from + used];
     if STATUS <= second {
-        return faulty(UNKNOWN);
+        return None;
     }
-    sent(status, first, second, used + 1, gap)
+    Some(sent(status, first, second, used + 1, gap))
 }
 
 // The event at a place, where it is a message of two data bytes behind a gap of one byte, as most are: then the same as
-// `event_at`, which is slower, and otherwise UNKNOWN.
-fn quick_at(s: &[u8], from: usize, running: u64) -> Found
+// `event_at`, which is slower.
+fn quick_at(s: &[u8], from: usize, running: u64) -> Option<Found>
     requires { from ≤ length s.now }
-    ensures at_each_time { result.code ≡ 0 → ((t : ℕ) → Counts t result (is_told result.status)) × ((t : ℕ) → tells t result ≡ seen_in kept_in running t (drop from s.now)) }
-    ensures gap_lt_quantity_top { result.gap < quantity_top }
+    ensures { IfSome result (λ f. (f.code ≡ 0) × (f.gap < quantity_top) × ((t : ℕ) → Counts t f (is_told f.status))
+        × ((t : ℕ) → tells t f ≡ seen_in kept_in running t (drop from s.now))) }
 {
     if s.len() - from < 4 {
-        return faulty(UNKNOWN);
+        return None;
     }
     let gap = s[from];
     if STATUS <= gap {
-        return faulty(UNKNOWN);
+        return None;
     }
     let x = s[from + 1];
     if x < STATUS {
@@ -301,7 +304,7 @@ fn quick_at(s: &[u8], from: usize, running: u64) -> Found
     }
     let first = s[from + 2];
     if STATUS <= first {
-        return faulty(UNKNOWN);
+        return None;
     }
     quick_second(s, from, 3, gap as u64, x as u64, first)
 }
@@ -378,8 +381,7 @@ fn look_over(s: &[u8]) -> Outline
 {
     let mut c = start();
     loop {
-        let q = quick_at(s, c.at, c.status);
-        if q.code == 0 {
+        if let Some(q) = quick_at(s, c.at, c.status) {
             c = behind(c, q, is_told(q.status));
             continue;
         }
@@ -462,8 +464,7 @@ fn fill(s: &[u8], events: &mut [i64])
 {
     let mut c = start();
     loop {
-        let q = quick_at(s, c.at, c.status);
-        if q.code == 0 {
+        if let Some(q) = quick_at(s, c.at, c.status) {
             let told = is_told(q.status);
             put(events, c.kept, q, c.time, told);
             c = behind(c, q, told);

@@ -34,47 +34,23 @@ fn blank_page() -> [u8; PAGE]
     [0; PAGE]
 }
 
-// What a stream holds next: a tape of so many bytes, or its end, after so many bytes of a length.
-#[derive(Clone, Copy)]
-enum Next {
-    Tape(usize),
-    End(usize),
-}
-
-fn length_in(head: &[u8]) -> Next {
-    if head.len() < 4 {
-        return Next::End(0);
-    }
-    Next::Tape(text::bits_at(head, 0) as usize)
-}
-
-fn next_length(from: &mut Stdin) -> Next {
+// How long the next tape of a stream is; at the stream's end, how many bytes of a length there were.
+fn next_length(from: &mut Stdin) -> std::result::Result<usize, usize> {
     let mut head: [u8; 4] = [0; 4];
-    let n = read_full(from, &mut head);
-    if n < 4 {
-        return Next::End(n);
+    match read_full(from, &mut head) {
+        4 => Ok(u32::from_le_bytes(head) as usize),
+        n => Err(n),
     }
-    length_in(&head)
-}
-
-fn least(a: usize, b: usize) -> usize
-    ensures { (result ≤ a) × (result ≤ b) }
-{
-    if a < b {
-        return a;
-    }
-    b
 }
 
 // Reads n bytes to the front of `space`, or as many as there are; answers how many.
 fn read_front(from: &mut Stdin, space: &mut [u8], n: usize) -> usize
     ensures { result ≤ n }
 {
-    if n <= space.len() {
-        let got = read_full(from, &mut space[..n]);
-        return least(got, n);
+    match space.get_mut(..n) {
+        Some(front) => read_full(from, front).min(n),
+        None => 0,
     }
-    0
 }
 
 // Passes over some of the bytes that are left; answers how many, 0 at the stream's end.
@@ -82,8 +58,8 @@ fn skip_part(from: &mut Stdin, left: usize) -> usize
     ensures { result ≤ left }
 {
     let mut space: [u8; 65536] = [0; 65536];
-    let n = read_front(from, &mut space, least(left, 65536));
-    least(n, left)
+    let n = left.min(space.len());
+    read_front(from, &mut space, n)
 }
 
 // What is left after a part: nothing where there was none.
@@ -91,10 +67,7 @@ fn rest_of(left: usize, part: usize) -> usize
     requires { (0 < left) × (part ≤ left) }
     ensures { (result < left) × (part + result ≤ left) }
 {
-    if part == 0 {
-        return 0;
-    }
-    left - part
+    if part == 0 { 0 } else { left - part }
 }
 
 // Passes over n bytes, or as many as there are; answers how many.
@@ -113,31 +86,31 @@ fn skip(from: &mut Stdin, n: usize) -> usize
 
 // Reads a tape of `long` bytes, those that show what it is to the front of `space`; answers how many there were.
 fn read_tape(from: &mut Stdin, space: &mut [u8], long: usize) -> usize {
-    if long <= LONGEST {
-        return read_front(from, space, long);
+    let n = read_front(from, space, long.min(LONGEST));
+    if n < LONGEST || long <= LONGEST {
+        n
+    } else {
+        LONGEST + skip(from, long - LONGEST)
     }
-    let n = read_front(from, space, LONGEST);
-    if n < LONGEST {
-        return n;
-    }
-    LONGEST + skip(from, long - LONGEST)
 }
 
 fn write_front(to: Stdout, page: &[u8], n: usize) -> Result<()> {
-    if n <= page.len() {
-        return to.write_all(&page[..n]);
+    match page.get(..n) {
+        Some(front) => to.write_all(front),
+        None => Ok(()),
     }
-    Ok(())
 }
 
 // Plays the tape that the first n bytes of `space` are, on an empty list.
 fn print_first(to: Stdout, space: &[u8], n: usize, page: &mut [u8]) -> Result<()> {
-    let mut events = no_events();
-    if n <= space.len() {
-        let long = spool::print_tape(&space[..n], &mut events, page);
-        return write_front(to, page, long);
+    match space.get(..n) {
+        Some(tape) => {
+            let mut events = no_events();
+            let long = spool::print_tape(tape, &mut events, page);
+            write_front(to, page, long)
+        }
+        None => Ok(()),
     }
-    Ok(())
 }
 
 // Says where a stream ended: after `there` bytes of `long`.
@@ -158,15 +131,15 @@ fn play_next(
         print_end(to, "tape: ", there, long)?;
         return Ok(false);
     }
-    print_first(to, space, least(long, LONGEST), page)?;
+    print_first(to, space, long.min(LONGEST), page)?;
     Ok(true)
 }
 
 // Reads and plays the next tape; false at the stream's end.
 fn turn(from: &mut Stdin, to: Stdout, space: &mut [u8], page: &mut [u8]) -> Result<bool> {
     match next_length(from) {
-        Next::Tape(long) => play_next(from, to, space, page, long),
-        Next::End(n) => {
+        Ok(long) => play_next(from, to, space, page, long),
+        Err(n) => {
             if 0 < n {
                 print_end(to, "length: ", n, 4)?;
             }
@@ -176,12 +149,9 @@ fn turn(from: &mut Stdin, to: Stdout, space: &mut [u8], page: &mut [u8]) -> Resu
 }
 
 fn play_all(from: &mut Stdin, to: Stdout, space: &mut [u8], page: &mut [u8]) -> Result<()> {
-    let mut left = MOST_TAPES;
-    while 0 < left {
-        left -= 1;
-        let goes_on = turn(from, to, space, page)?;
-        if !goes_on {
-            left = 0;
+    for _ in 0..MOST_TAPES {
+        if !turn(from, to, space, page)? {
+            break;
         }
     }
     Ok(())

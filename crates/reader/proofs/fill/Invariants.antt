@@ -6,8 +6,8 @@ use Rattle.eventlist.specs.Rows.{rows_of}
 use Rattle.reader.proofs.Passes.{Fills}
 use Rattle.reader.proofs.fill.Given as goal
 
-abbrev pub invariant-loop-told : goal.invariant-loop-told
-invariant-loop-told l = (length l.events ≡ length l.initial.events) × Fills l.s (rows_of l.initial.events) l.c (rows_of l.events)
+abbrev pub invariant-loop-q : goal.invariant-loop-q
+invariant-loop-q l = (length l.events ≡ length l.initial.events) × Fills l.s (rows_of l.initial.events) l.c (rows_of l.events)
 
-abbrev pub decreases-loop-told : goal.decreases-loop-told
-decreases-loop-told l = length l.s - l.c.at
+abbrev pub decreases-loop-q : goal.decreases-loop-q
+decreases-loop-q l = length l.s - l.c.at

@@ -8,8 +8,8 @@ use Rattle.reader.specs.Steps.{outlined, counting}
 use Rattle.reader.proofs.Passes.{Place, left_at}
 use Rattle.reader.proofs.look_over.Given as goal
 
-abbrev pub invariant-loop-c : goal.invariant-loop-c
-invariant-loop-c l = Place l.s l.c × (counting l.c.kept l.c.late (outlined (left_at l.s l.c)) ≡ outlined (read_body kept_in l.s))
+abbrev pub invariant-loop-q : goal.invariant-loop-q
+invariant-loop-q l = Place l.s l.c × (counting l.c.kept l.c.late (outlined (left_at l.s l.c)) ≡ outlined (read_body kept_in l.s))
 
-abbrev pub decreases-loop-c : goal.decreases-loop-c
-decreases-loop-c l = length l.s - l.c.at
+abbrev pub decreases-loop-q : goal.decreases-loop-q
+decreases-loop-q l = length l.s - l.c.at

@@ -4,9 +4,10 @@ use mathlib.Core.List.{List, ◌∷◌}
 use Prim.Native.Nat.{ℕ, ◌+◌, ◌<◌}
 use native.Mathlib.Omega.{arith}
 use lib.ListN.{length, get_or, drop}
+use Rattle.std.proofs.lemmas.Option.{IfSome_then}
 use Rattle.chunks.specs.Reader.{message_in, status_in, seen_in}
 use Rattle.reader.specs.Reading.{kept_in}
-use Rattle.reader.proofs.Places.{unknown, byte_left, message-two, runs, sends, seen-quick}
+use Rattle.reader.proofs.Places.{byte_left, message-two, runs, sends, seen-quick}
 use Rattle.reader.proofs.quick_at.Goals as goal
 
 -- four bytes stand at the place, the first of them a gap
@@ -60,30 +61,21 @@ module _ (c : goal.After-quick_second-2) where
       ap (status_in kept_in c.args.running (t + g-at-3) g-at-3 1) (sym (byte_left b-at-3 p-at-3 1 (omega (arith, four-at-3))))
       ∙ seen-quick kept_in c.args.running t b-at-3 p-at-3 (omega (arith, four-at-3)) c.if-gap-ge-STATUS.false
 
-pub returns-then-s-from-lt4 : goal.returns-then-s-from-lt4
-returns-then-s-from-lt4 c = record { at_each_time = unknown c.faulty.result 1 c.faulty.ensures; gap_lt_quantity_top = c.faulty.ensures.gap_lt_quantity_top }
-
-pub returns-then-gap-ge-STATUS : goal.returns-then-gap-ge-STATUS
-returns-then-gap-ge-STATUS c = record { at_each_time = unknown c.faulty-then-gap-ge-STATUS.result 1 c.faulty-then-gap-ge-STATUS.ensures; gap_lt_quantity_top = c.faulty-then-gap-ge-STATUS.ensures.gap_lt_quantity_top }
-
 pub returns-then-x-lt-STATUS : goal.returns-then-x-lt-STATUS
 returns-then-x-lt-STATUS c =
-    let r = c.args.running in record {
-      at_each_time = λ z.
-          let q = c.quick_second.ensures.double z in
-          let d = q.0 in (
-            q.1,
-            λ t.
-                q.2 t
-                ∙ message-two kept_in r (t + g c) (g c) 1 (x c) (drop (p c + 2) (b c)) c.if-x-lt-STATUS.true d.double
-                ∙ runs kept_in r (t + g c) (g c) 1 (x c) (drop (p c + 2) (b c)) c.if-x-lt-STATUS.true (λ (h : r ≡ 0). absurd (omega (arith, h, d.low)))
-                ∙ behind-gap c t,
-          );
-      gap_lt_quantity_top = c.quick_second.ensures.gap_lt_quantity_top;
-    }
-
-pub returns-then-first-ge-STATUS : goal.returns-then-first-ge-STATUS
-returns-then-first-ge-STATUS c = record { at_each_time = unknown c.faulty-then-first-ge-STATUS.result 1 c.faulty-then-first-ge-STATUS.ensures; gap_lt_quantity_top = c.faulty-then-first-ge-STATUS.ensures.gap_lt_quantity_top }
+    let r = c.args.running in
+    IfSome_then c.quick_second.result c.quick_second.ensures
+    (λ f q.
+    let d = q.2 in (
+      q.0,
+      q.1,
+      q.3,
+      λ t.
+          q.4 t
+          ∙ message-two kept_in r (t + g c) (g c) 1 (x c) (drop (p c + 2) (b c)) c.if-x-lt-STATUS.true d.double
+          ∙ runs kept_in r (t + g c) (g c) 1 (x c) (drop (p c + 2) (b c)) c.if-x-lt-STATUS.true (λ (h : r ≡ 0). absurd (omega (arith, h, d.low)))
+          ∙ behind-gap c t,
+    ))
 
 pub overflow_cast-x : goal.overflow_cast-x
 overflow_cast-x c = omega (arith, c.shared_slice_known-2-1.given (p-at-2 c + 1))
@@ -91,17 +83,17 @@ overflow_cast-x c = omega (arith, c.shared_slice_known-2-1.given (p-at-2 c + 1))
 pub returns : goal.returns
 returns c =
     let r = c.args.running in
-    let a = get_or (b-at-3 c) (p-at-3 c + 2) 0 in record {
-      at_each_time = λ z.
-          let q = c.quick_second-2.ensures.double z in
-          let d = q.0 in (
-            q.1,
-            λ t.
-                q.2 t
-                ∙ message-two kept_in (x-at-3 c) (t + g-at-3 c) (g-at-3 c) 2 a (drop (p-at-3 c + 3) (b-at-3 c)) c.if-first-ge-STATUS.false d.double
-                ∙ ap (message_in kept_in (x-at-3 c) (t + g-at-3 c) (g-at-3 c) 2) (sym (byte_left (b-at-3 c) (p-at-3 c) 2 (omega (arith, four-at-3 c))))
-                ∙ sends kept_in r (t + g-at-3 c) (g-at-3 c) 1 (x-at-3 c) (drop (p-at-3 c + 2) (b-at-3 c)) d.low d.high
-                ∙ behind-gap-at-3 c t,
-          );
-      gap_lt_quantity_top = c.quick_second-2.ensures.gap_lt_quantity_top;
-    }
+    let a = get_or (b-at-3 c) (p-at-3 c + 2) 0 in
+    IfSome_then c.quick_second-2.result c.quick_second-2.ensures
+    (λ f q.
+    let d = q.2 in (
+      q.0,
+      q.1,
+      q.3,
+      λ t.
+          q.4 t
+          ∙ message-two kept_in (x-at-3 c) (t + g-at-3 c) (g-at-3 c) 2 a (drop (p-at-3 c + 3) (b-at-3 c)) c.if-first-ge-STATUS.false d.double
+          ∙ ap (message_in kept_in (x-at-3 c) (t + g-at-3 c) (g-at-3 c) 2) (sym (byte_left (b-at-3 c) (p-at-3 c) 2 (omega (arith, four-at-3 c))))
+          ∙ sends kept_in r (t + g-at-3 c) (g-at-3 c) 1 (x-at-3 c) (drop (p-at-3 c + 2) (b-at-3 c)) d.low d.high
+          ∙ behind-gap-at-3 c t,
+    ))
