@@ -80,6 +80,13 @@ leb-not m n = go (leb m n) refl
     go true e = rw (le-ltb n m (leb-true m n e))
     go false e = rw (lt-ltb n m (leb-false m n e))
 
+pub returns-in_err-ask : goal.returns-in_err-ask
+unfolding quick_refusal
+returns-in_err-ask c =
+    let p = err_from_is_err_and c.from_residual.result c.from_residual.ensures.1 in
+    let h = refused _ _ _ (sym c.in_err-ask.was ∙ c.ask.ensures) in
+    rw (p.1, p.2, h.1, h.0)
+
 -- past the first test, and past the tests of 4 but for the tables and the cycles
 listed : (c : After-ask) → c.ask.result ≡ Ok tt → (eqb (c.args.long % record_width) 0 && leb c.args.count (c.args.long / record_width) && eqb c.args.size places) ≡ true
 listed c e = passed _ _ (sym c.ask.ensures ∙ e)
@@ -90,13 +97,6 @@ three c e = asks c.args.track c.args.cycles c.args.until c.args.budget c.ranges.
 four : (c : After-ask-3) {v : Bool} → (is_time c.args.until && ok_track c.args.track && ok_budget c.args.budget) ≡ true → c.lent_alone-lent.result ≡ v
     → (is_time c.args.until && ok_lent c.args.track c.args.cycles && ok_budget c.args.budget) ≡ v
 four c q e = numbers c.args.track c.args.cycles c.args.until c.args.budget c.ranges.until q c.cycles_of-own.ensures c.lent_alone-lent.ensures e
-
-pub returns-in_err-ask : goal.returns-in_err-ask
-unfolding quick_refusal
-returns-in_err-ask c =
-    let p = err_from_is_err_and c.from_residual.result c.from_residual.ensures.1 in
-    let h = refused _ _ _ (sym c.in_err-ask.was ∙ c.ask.ensures) in
-    rw (p.1, p.2, h.1, h.0)
 
 pub returns-in_err-ask-2 : goal.returns-in_err-ask-2
 unfolding quick_refusal
