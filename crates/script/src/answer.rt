@@ -1,5 +1,6 @@
 // What a call answers: numbers, or why it has none.
 use crate::page::Page;
+use numbers::Refusal;
 
 // The numbers behind the code 0.
 #[derive(Clone, Copy, Debug, PartialEq, Eq)]
@@ -19,6 +20,12 @@ pub enum Failure {
 }
 
 pub type Answer = Result<Answers, Failure>;
+
+impl From<Refusal> for Failure {
+    fn from(refusal: Refusal) -> Failure {
+        Failure::Refused(refusal.number())
+    }
+}
 
 // Whether a call of the port that answered this code did what it was asked.
 pub fn accepted(code: u32) -> Result<(), Failure> {
