@@ -18,7 +18,7 @@ use state::{Track, TrackAnswer, no_cycles};
 pub const MOST_RECORDS: usize = 10240;
 
 // The numbers of so many records, and seven more.
-const MOST_NUMBERS: usize = 81927;
+pub const MOST_NUMBERS: usize = 81927;
 
 // The bytes of the store.
 const STORE: usize = 256;
