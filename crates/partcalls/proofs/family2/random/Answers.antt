@@ -1,6 +1,6 @@
 -- `random`: numbers of 32 bits are small enough to be moved.
 use Rattle.std.proofs.Common.{◌∙◌, sym, w64, to_z, of_z}
-use Rattle.partcalls.proofs.Asking.{held}
+use Rattle.script.proofs.Asking.{held}
 use Rattle.partcalls.proofs.Words.{word_small}
 use Rattle.partcalls.proofs.family2.random.Goals as goal
 

@@ -2,7 +2,7 @@
 use Rattle.std.proofs.Common.{arith}
 use Rattle.std.proofs.lemmas.Bool.{ltb-true}
 use Rattle.eventlist.proofs.EventRows.{length-rows_of}
-use Rattle.partcalls.proofs.Asking.{held}
+use Rattle.script.proofs.Asking.{held}
 use Rattle.partcalls.proofs.family3.added.Goals as goal
 
 pub append-requires : goal.append-requires

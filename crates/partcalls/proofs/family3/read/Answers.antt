@@ -2,7 +2,7 @@
 use Rattle.std.proofs.Common.{◌∙◌, sym, arith}
 use Rattle.std.proofs.lemmas.Bool.{ltb-true}
 use Rattle.eventlist.proofs.Sound.{list-within}
-use Rattle.partcalls.proofs.Asking.{held}
+use Rattle.script.proofs.Asking.{held}
 use Rattle.partcalls.proofs.family3.read.Goals as goal
 
 pub records_ok-requires : goal.records_ok-requires

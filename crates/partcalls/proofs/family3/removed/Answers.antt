@@ -3,7 +3,7 @@ use Rattle.std.proofs.Common.{◌∙◌, sym, length}
 use Rattle.eventlist.specs.Windows.{windows_of}
 use Rattle.eventlist.proofs.Sound.{list-within}
 use Rattle.eventlist.proofs.Surveying.{surveyed}
-use Rattle.partcalls.proofs.Asking.{held}
+use Rattle.script.proofs.Asking.{held}
 use Rattle.partcalls.proofs.family3.removed.Goals as goal
 
 pub survey-seen-requires : goal.survey-seen-requires
