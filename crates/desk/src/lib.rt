@@ -85,6 +85,14 @@ impl Desk {
         done(r.code)
     }
 
+    // A call that writes into the list, which hands a budget back, refused or not.
+    pub fn wrote(&mut self, code: u32, count: usize, budget: Budget) -> Answer {
+        self.budget = budget;
+        accepted(code)?;
+        self.count = count;
+        Ok(Answers::None)
+    }
+
     // 801: the new track in its place, where it is one, and the cycle table empty.
     pub fn begin_track(&mut self, timebase: i32, channel: i32) -> Answer {
         let made = Track::new(timebase, channel);

@@ -28,6 +28,7 @@ pub struct Reader {
 pub struct Head {
     pub op: i64,
     pub count: usize,
+    ghost few: { count ≤ 4096 },
 }
 
 impl Reader {

@@ -10,7 +10,7 @@ use reserving::{
     remove_reserve, set_cc_on_note, set_cc_on_note_wave, set_on_cycle, set_on_note,
     set_on_note_sine, set_on_note_wave, set_pb_on_note_wave,
 };
-use script::answer::{Answer, Answers, Failure, accepted, done};
+use script::answer::{Answer, Failure, done};
 use script::args::{as_i32, as_u32, as_usize, front};
 use tables::OnNoteSine;
 use waving::write_cc_on_note_wave;
@@ -37,32 +37,22 @@ fn sine_of(args: &[i64]) -> OnNoteSine {
     }
 }
 
-// A call that wrote.
-fn wrote(desk: &mut Desk, code: u32, count: usize) -> Answer {
-    accepted(code)?;
-    desk.count = count;
-    Ok(Answers::None)
-}
-
 // 707.
 fn noted(desk: &mut Desk, r: Noted) -> Answer {
     desk.track = r.track;
-    desk.budget = r.budget;
-    wrote(desk, r.code, r.count)
+    desk.wrote(r.code, r.count, r.budget)
 }
 
 // 708.
 fn waved(desk: &mut Desk, r: Outcome) -> Answer {
-    desk.budget = r.budget;
-    wrote(desk, r.code, r.count)
+    desk.wrote(r.code, r.count, r.budget)
 }
 
 // 709.
 fn cycled(desk: &mut Desk, r: Cycled) -> Answer {
     let cycles = r.cycles;
     desk.cycles = cycles;
-    desk.budget = r.budget;
-    wrote(desk, r.code, r.count)
+    desk.wrote(r.code, r.count, r.budget)
 }
 
 // A call that writes into the list as it is lent.

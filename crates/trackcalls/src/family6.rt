@@ -38,12 +38,9 @@ fn shape(number: i64) -> Answer {
     }))
 }
 
-// What a call that draws leaves. The budget is the one that the call hands back, refused or not.
+// A call that draws.
 fn drawn(desk: &mut Desk, r: Outcome) -> Answer {
-    desk.budget = r.budget;
-    accepted(r.code)?;
-    desk.count = r.count;
-    Ok(Answers::None)
+    desk.wrote(r.code, r.count, r.budget)
 }
 
 // 606: one value at a time on the track's channel, with its target's option. It is appended where its bytes fit and there is
