@@ -10,7 +10,6 @@ use notes::normalize;
 use numbers::is_number;
 use shapes::curve_value;
 use sorting::events_sort;
-use values::widened;
 
 // Above every count.
 const REFUSED: usize = 4294967296;
@@ -22,10 +21,7 @@ const NO_VALUE: i64 = 4294967296;
 const LONGEST: u64 = 1048576;
 
 fn count_of(t: Taken) -> usize {
-    if t.code != 0 {
-        return REFUSED;
-    }
-    t.count
+    if t.code != 0 { REFUSED } else { t.count }
 }
 
 #[unsafe(no_mangle)]
@@ -67,27 +63,18 @@ pub extern "C" fn bench_normalize(events: &mut [i64], count: usize, store: &[u8]
 #[unsafe(no_mangle)]
 pub extern "C" fn bench_events_sort(events: &mut [i64], count: usize, store: &[u8]) -> usize {
     if events_sort(events, count, store) != 0 {
-        return REFUSED;
+        REFUSED
+    } else {
+        count
     }
-    count
 }
 
 // The value at step `j` of a curve of length `len`; above every value where a number is out of its range.
 #[unsafe(no_mangle)]
 pub extern "C" fn bench_curve_value(low: i32, high: i32, j: u64, len: u64) -> i64 {
-    if !is_number(low) {
-        return NO_VALUE;
+    if is_number(low) && is_number(high) && j < len && len <= LONGEST {
+        curve_value(i64::from(low), i64::from(high), j, len)
+    } else {
+        NO_VALUE
     }
-    if !is_number(high) {
-        return NO_VALUE;
-    }
-    if len <= j {
-        return NO_VALUE;
-    }
-    if LONGEST < len {
-        return NO_VALUE;
-    }
-    let a = widened(low);
-    let b = widened(high);
-    curve_value(a, b, j, len)
 }

@@ -14,10 +14,7 @@ pub extern "C" fn bench_new(timebase: i32, channel: i32) -> TrackAnswer {
 // A track in and out with nothing asked of it: what handing it on costs.
 #[unsafe(no_mangle)]
 pub extern "C" fn bench_hand_on(track: Track) -> TrackAnswer {
-    TrackAnswer {
-        code: 0,
-        track: track,
-    }
+    TrackAnswer { code: 0, track }
 }
 
 #[unsafe(no_mangle)]
@@ -60,8 +57,7 @@ pub extern "C" fn bench_set_on_note(
     target: i32,
     list: &[i32],
 ) -> Kept {
-    let cycles = table.items;
-    track::set_on_note(track, PLACES, cycles, target, list)
+    track::set_on_note(track, PLACES, table.items, target, list)
 }
 
 #[unsafe(no_mangle)]
@@ -72,8 +68,7 @@ pub extern "C" fn bench_set_on_note_wave(
     mode: u32,
     list: &[i32],
 ) -> Kept {
-    let cycles = table.items;
-    track::set_on_note_wave(track, PLACES, cycles, target, mode, list)
+    track::set_on_note_wave(track, PLACES, table.items, target, mode, list)
 }
 
 #[unsafe(no_mangle)]
@@ -83,8 +78,7 @@ pub extern "C" fn bench_set_on_note_sine(
     target: i32,
     sine: OnNoteSine,
 ) -> Kept {
-    let cycles = table.items;
-    track::set_on_note_sine(track, PLACES, cycles, target, sine)
+    track::set_on_note_sine(track, PLACES, table.items, target, sine)
 }
 
 #[unsafe(no_mangle)]
@@ -95,8 +89,7 @@ pub extern "C" fn bench_set_on_cycle(
     length: i32,
     list: &[i32],
 ) -> Kept {
-    let cycles = table.items;
-    track::set_on_cycle(track, PLACES, cycles, target, length, list)
+    track::set_on_cycle(track, PLACES, table.items, target, length, list)
 }
 
 #[unsafe(no_mangle)]
@@ -183,8 +176,7 @@ pub extern "C" fn bench_write_cc_on_cycle(
     events: &mut [i64],
     count: usize,
 ) -> Cycled {
-    let cycles = table.items;
-    track::write_cc_on_cycle(track, PLACES, cycles, until, budget, events, count)
+    track::write_cc_on_cycle(track, PLACES, table.items, until, budget, events, count)
 }
 
 // ---- these are asked for their stack alone
@@ -214,8 +206,7 @@ pub extern "C" fn bench_calc_v_on_time(track: Track, def: i32) -> TrackValue {
 
 #[unsafe(no_mangle)]
 pub extern "C" fn bench_remove_reserve(track: Track, table: CycleTable, target: i32) -> Kept {
-    let cycles = table.items;
-    track::remove_reserve(track, PLACES, cycles, target)
+    track::remove_reserve(track, PLACES, table.items, target)
 }
 
 #[unsafe(no_mangle)]

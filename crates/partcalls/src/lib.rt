@@ -1,6 +1,5 @@
 // The calls of a script on a track's parts: events (family 1), leaves (2), the list (3), the note parameters (4). Each is
-// handed what its family takes of the desk, and the desk is put together again once. Call 305, which asks the whole track, is not
-// here.
+// handed what its family takes of the desk, and changes it in place. Call 305, which asks the whole track, is not here.
 #![tactic(auto)]
 
 pub mod family1;

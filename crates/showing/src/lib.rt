@@ -9,98 +9,98 @@ mod stored;
 mod waiting;
 mod written;
 
-use desk::Desk;
-use numbered::{budget_row, show_options, track_row};
+use desk::{Buffers, Desk, param_of};
+use numbered::{show_budget, show_options, show_track};
 use played::{show_named, show_params};
-use script::pen::{Page, Pen};
+use script::page::Page;
 use script::reader::family_of;
-use stored::{Row, show_row};
 use waiting::show_table;
 use written::{show_list, show_numbers};
 
-// The most sections that a call shows.
-const MOST_SECTIONS: usize = 10;
-
-// Letter i of a row of sections.
-fn letter_in(rows: &[u8], i: usize) -> u8 {
-    if i < rows.len() {
-        return rows[i];
-    }
-    b' '
+// `Split` is the list of call 306, `Output` that of call 311, and `Named` the parameter that the call named.
+#[derive(Clone, Copy, Debug, PartialEq, Eq)]
+enum Section {
+    Budget,
+    Cycles,
+    Events,
+    Layers,
+    Named,
+    Notes,
+    Options,
+    Output,
+    Params,
+    Sines,
+    Split,
+    Track,
+    Waves,
 }
 
-// The row of a call's sections: its family's, or its own.
-fn row_of_call(op: i64) -> u32 {
+// The sections of a call: its own, or its family's.
+fn sections_of(op: i64) -> &'static [Section] {
     match op {
-        306 => 11,
-        311 => 12,
-        418 => 0,
-        915 => 10,
-        _ => family_of(op),
+        306 => &[Section::Events, Section::Split],
+        311 => &[Section::Events, Section::Output],
+        418 => &[],
+        915 => &[
+            Section::Events,
+            Section::Budget,
+            Section::Track,
+            Section::Options,
+            Section::Params,
+            Section::Layers,
+            Section::Notes,
+            Section::Waves,
+            Section::Sines,
+            Section::Cycles,
+        ],
+        _ => sections_of_family(family_of(op)),
     }
 }
 
-// Section i of a row, a space where there is none: families 0 to 9, then 915, 306 and 311. `p` is P of the parameter that the
-// call named.
-fn letter_of(row: u32, i: usize) -> u8 {
-    if row < 13 {
-        if i < MOST_SECTIONS {
-            return letter_in(
-                b"                    B         E         p         TPL       EBO       EBTONWSC  T                   EBTOPLNWSCER        EK        ",
-                row as usize * 10 + i,
-            );
-        }
+fn sections_of_family(family: u32) -> &'static [Section] {
+    match family {
+        2 => &[Section::Budget],
+        3 => &[Section::Events],
+        4 => &[Section::Named],
+        5 => &[Section::Track, Section::Params, Section::Layers],
+        6 => &[Section::Events, Section::Budget, Section::Options],
+        7 => &[
+            Section::Events,
+            Section::Budget,
+            Section::Track,
+            Section::Options,
+            Section::Notes,
+            Section::Waves,
+            Section::Sines,
+            Section::Cycles,
+        ],
+        8 => &[Section::Track],
+        _ => &[],
     }
-    b' '
 }
 
-// B or T.
-fn numbers_of(letter: u8, desk: Desk) -> Row {
-    if letter == b'B' {
-        return budget_row(desk.budget);
-    }
-    track_row(desk.track)
-}
-
-// One section.
-fn section(
-    letter: u8,
-    pen: Pen,
-    out: &mut Page,
-    desk: Desk,
-    events: &[i64],
-    second: &[i64],
-    store: &[u8],
-) -> Pen {
-    match letter {
-        b' ' => pen,
-        b'B' | b'T' => show_row(pen, out, letter, numbers_of(letter, desk)),
-        b'E' => show_list(pen, out, letter, events, desk.count, store),
-        b'R' => show_list(pen, out, letter, second, desk.split, store),
-        b'K' => show_numbers(pen, out, letter, second, desk.split),
-        b'O' => show_options(pen, out, desk),
-        b'P' => show_params(pen, out, desk),
-        b'p' => show_named(pen, out, desk),
-        _ => show_table(pen, out, letter, desk),
+fn show_section(section: Section, page: &mut Page, desk: &Desk, buffers: &Buffers) {
+    let track = &desk.track;
+    match section {
+        Section::Budget => show_budget(page, &desk.budget),
+        Section::Cycles => show_table(page, b'C', track.cycles, &desk.cycles),
+        Section::Events => show_list(page, b'E', desk.count, &buffers.events, &buffers.store),
+        Section::Layers => show_table(page, b'L', track.layers.count, &track.layers.items),
+        Section::Named => show_named(page, param_of(track, desk.named)),
+        Section::Notes => show_table(page, b'N', track.notes.count, &track.notes.items),
+        Section::Options => show_options(page, &track.options),
+        Section::Output => show_numbers(page, b'K', desk.split, &buffers.second),
+        Section::Params => show_params(page, track),
+        Section::Sines => show_table(page, b'S', track.sines.count, &track.sines.items),
+        Section::Split => show_list(page, b'R', desk.split, &buffers.second, &buffers.store),
+        Section::Track => show_track(page, track),
+        Section::Waves => show_table(page, b'W', track.waves.count, &track.waves.items),
     }
 }
 
 // The sections of a call.
-pub fn show(
-    op: i64,
-    pen: Pen,
-    out: &mut Page,
-    desk: Desk,
-    events: &[i64],
-    second: &[i64],
-    store: &[u8],
-) -> Pen {
-    let row = row_of_call(op);
-    let mut p = pen;
-    let mut i: usize = 0;
-    while i < MOST_SECTIONS {
-        p = section(letter_of(row, i), p, out, desk, events, second, store);
-        i += 1;
+pub fn show(op: i64, page: &mut Page, desk: &Desk, buffers: &Buffers) {
+    for section in sections_of(op) {
+        show_section(*section, page, desk, buffers);
     }
-    p
 }

@@ -1,127 +1,70 @@
 // B, T and O: the budget, the numbers that stand in a track alone, and the options of its targets.
-use crate::stored::{Row, counted, put_row, row_of};
+use crate::stored::{counted, show_row};
 use budget::Budget;
-use desk::Desk;
-use desk::lists::widened;
-use script::pen::{Page, Pen, begin, end, number};
+use script::page::Page;
 use state::{OPTIONS, Track};
 use values::WriteOption;
 
 // B: seed, maximum, used, flag.
-pub fn budget_row(b: Budget) -> Row {
-    row_of(
-        4,
-        [
-            b.seed as i64,
-            b.maximum as i64,
-            b.used as i64,
-            b.over as i64,
-            0,
-            0,
-            0,
-            0,
-            0,
-            0,
+pub fn show_budget(page: &mut Page, b: &Budget) {
+    show_row(
+        page,
+        b'B',
+        &[
+            i64::from(b.seed),
+            i64::from(b.maximum),
+            i64::from(b.used),
+            i64::from(b.over),
         ],
-    )
+    );
 }
 
 // T: timebase, timepos, channel, both frequencies, velocity, timing, octave, qlen, qlen_is_step.
-pub fn track_row(t: Track) -> Row {
-    row_of(
-        10,
-        [
-            widened(t.timebase),
+pub fn show_track(page: &mut Page, t: &Track) {
+    show_row(
+        page,
+        b'T',
+        &[
+            i64::from(t.timebase),
             t.timepos,
-            widened(t.channel),
-            widened(t.ccfreq),
-            widened(t.pbfreq),
-            widened(t.velocity),
-            widened(t.timing),
-            widened(t.octave),
-            widened(t.qlen),
-            t.step as i64,
+            i64::from(t.channel),
+            i64::from(t.ccfreq),
+            i64::from(t.pbfreq),
+            i64::from(t.velocity),
+            i64::from(t.timing),
+            i64::from(t.octave),
+            i64::from(t.qlen),
+            i64::from(t.step),
         ],
-    )
+    );
 }
 
 // Whether anything is set in an option.
-fn is_set(o: WriteOption) -> bool {
-    (o.delay != 0) | (o.random != 0) | (o.ranged != 0) | (o.repeat != 0)
-}
-
-// The option of a key.
-fn option_at(options: [WriteOption; OPTIONS], key: usize) -> WriteOption {
-    if key < OPTIONS {
-        return options[key];
-    }
-    WriteOption::new()
+fn is_set(o: &WriteOption) -> bool {
+    o.delay != 0 || o.random != 0 || o.ranged != 0 || o.repeat != 0
 }
 
 // Key, delay, random, ranged, low, high, repeat.
-fn option_row(key: usize, o: WriteOption) -> Row {
-    row_of(
-        7,
-        [
-            counted(key),
-            widened(o.delay),
-            widened(o.random),
-            o.ranged as i64,
-            widened(o.low),
-            widened(o.high),
-            o.repeat as i64,
-            0,
-            0,
-            0,
-        ],
-    )
+fn put_option(page: &mut Page, key: usize, o: &WriteOption) {
+    page.numbers(&[
+        counted(key),
+        i64::from(o.delay),
+        i64::from(o.random),
+        i64::from(o.ranged),
+        i64::from(o.low),
+        i64::from(o.high),
+        i64::from(o.repeat),
+    ]);
 }
 
-// An option, where anything is set.
-fn put_if_set(pen: Pen, out: &mut Page, key: usize, o: WriteOption) -> Pen {
-    if is_set(o) {
-        return put_row(pen, out, option_row(key, o));
-    }
-    pen
-}
-
-// One more, where the option counts.
-fn counted_too(n: usize, o: WriteOption) -> usize {
-    if is_set(o) {
-        if n < OPTIONS {
-            return n + 1;
+// O: how many options have anything set, and each of these.
+pub fn show_options(page: &mut Page, options: &[WriteOption; OPTIONS]) {
+    page.begin(b'O');
+    page.number(counted(options.iter().filter(|o| is_set(o)).count()));
+    for (key, o) in options.iter().enumerate() {
+        if is_set(o) {
+            put_option(page, key, o);
         }
     }
-    n
-}
-
-// How many options have anything set.
-fn count_set(options: [WriteOption; OPTIONS]) -> usize {
-    let mut n: usize = 0;
-    let mut key: usize = 0;
-    while key < OPTIONS {
-        n = counted_too(n, option_at(options, key));
-        key += 1;
-    }
-    n
-}
-
-fn put_options(pen: Pen, out: &mut Page, options: [WriteOption; OPTIONS]) -> Pen {
-    let mut p = pen;
-    let mut key: usize = 0;
-    while key < OPTIONS {
-        p = put_if_set(p, out, key, option_at(options, key));
-        key += 1;
-    }
-    p
-}
-
-// O.
-pub fn show_options(pen: Pen, out: &mut Page, desk: Desk) -> Pen {
-    let track = desk.track;
-    let options = track.options;
-    let a = begin(pen, out, b'O');
-    let b = number(a, out, counted(count_set(options)));
-    let c = put_options(b, out, options);
-    end(c, out)
+    page.end();
 }

@@ -8,156 +8,88 @@ mod played;
 mod waiting;
 
 use budget::Budget;
-use desk::{
-    Called, Desk, MOST_RECORDS, answered, new_desk, with_budget, with_count, with_cycles,
-    with_lending, with_param, with_track,
-};
+use desk::{Buffers, Desk, MOST_RECORDS};
 use options::put_option;
 use played::{put_layer, put_param};
-use script::answer::{done, unknown};
+use script::answer::{Answer, Answers, Failure};
 use script::args::{arg, as_i32, as_u32, as_usize, store};
 use state::Track;
 use waiting::{put_cycle, put_note, put_sine, put_wave};
 
-// Whether the call is there.
-fn is_known(op: i64) -> bool {
-    (901 <= op) & (op <= 915)
-}
-
 // 903.
-fn set_budget(desk: Desk, args: &[i64]) -> Desk {
-    let b = Budget {
+fn budget_of(args: &[i64]) -> Budget {
+    Budget {
         seed: as_u32(arg(args, 0)),
         maximum: as_u32(arg(args, 1)),
         used: as_u32(arg(args, 2)),
         over: as_u32(arg(args, 3)),
-    };
-    with_budget(desk, b)
+    }
 }
 
-// Number `field` of the record at `place`.
+// 906: number `field` of the record at `place`.
 fn put_number(events: &mut [i64], place: usize, field: usize, value: i64) {
-    if place < MOST_RECORDS {
-        if field < 8 {
-            store(events, place * 8 + field, value);
+    if place < MOST_RECORDS && field < 8 {
+        store(events, place * 8 + field, value);
+    }
+}
+
+// 904: the eight numbers of a record behind the last; nothing where the list is full.
+fn append(args: &[i64], desk: &mut Desk, events: &mut [i64]) {
+    if desk.count < desk.room {
+        for field in 0..8 {
+            put_number(events, desk.count, field, arg(args, field));
         }
+        desk.count += 1;
     }
 }
 
-// The eight numbers of the record at `place`.
-fn put_record(events: &mut [i64], place: usize, args: &[i64]) {
-    let mut i: usize = 0;
-    while i < 8 {
-        put_number(events, place, i, arg(args, i));
-        i += 1;
-    }
-}
-
-// 904: nothing where the list is full.
-fn append(desk: Desk, args: &[i64], events: &mut [i64]) -> Desk {
-    let n = desk.count;
-    if desk.room <= n {
-        return desk;
-    }
-    put_record(events, n, args);
-    with_count(desk, n + 1)
-}
-
-// 907, the numbers before a note's own.
-fn placed(track: Track, k: usize, value: i64) -> Track {
-    let mut t = track;
+// 907.
+fn put_own(track: &mut Track, k: usize, value: i64) {
     let x = as_i32(value);
     match k {
-        0 => t.timebase = x,
-        1 => t.timepos = value,
-        2 => t.channel = x,
-        3 => t.ccfreq = x,
-        4 => t.pbfreq = x,
+        0 => track.timebase = x,
+        1 => track.timepos = value,
+        2 => track.channel = x,
+        3 => track.ccfreq = x,
+        4 => track.pbfreq = x,
+        5 => track.velocity = x,
+        6 => track.timing = x,
+        7 => track.octave = x,
+        8 => track.qlen = x,
+        9 => track.step = as_u32(value),
         _ => (),
     }
-    t
 }
 
-// 907, a note's own.
-fn voiced(track: Track, k: usize, value: i64) -> Track {
-    let mut t = track;
-    let x = as_i32(value);
-    match k {
-        5 => t.velocity = x,
-        6 => t.timing = x,
-        7 => t.octave = x,
-        8 => t.qlen = x,
-        9 => t.step = as_u32(value),
-        _ => (),
-    }
-    t
-}
-
-// 908.
-fn param_put(desk: Desk, p: usize, k: usize, value: i64) -> Desk {
-    let n = put_param(desk::param_at(desk, p), k, value);
-    with_param(desk, p, n)
-}
-
-// 914.
-fn cycle_put(desk: Desk, place: usize, k: usize, value: i64) -> Desk {
-    let cycles = desk.cycles;
-    let after = put_cycle(cycles, place, k, value);
-    with_cycles(desk, after)
-}
-
-// A track with number k of its numbers, or of an entry at `place`, put.
-fn track_put(op: i64, track: Track, place: usize, k: usize, value: i64) -> Track {
-    match op {
-        909 => put_layer(track, place, k, value),
-        910 => put_option(track, place, k, value),
-        911 => put_note(track, place, k, value),
-        912 => put_wave(track, place, k, value),
-        913 => put_sine(track, place, k, value),
-        _ => track,
-    }
-}
-
-// 907, and 909 to 913.
-fn in_track(op: i64, desk: Desk, a: usize, b: i64, c: i64) -> Desk {
-    let track = desk.track;
-    if op == 907 {
-        return with_track(desk, voiced(placed(track, a, b), a, b));
-    }
-    with_track(desk, track_put(op, track, a, as_usize(b), c))
-}
-
-// A call that puts a number into the track or a table.
-fn put(op: i64, desk: Desk, a: usize, b: i64, c: i64) -> Desk {
-    match op {
-        908 => param_put(desk, a, as_usize(b), c),
-        914 => cycle_put(desk, a, as_usize(b), c),
-        _ => in_track(op, desk, a, b, c),
-    }
-}
-
-// The desk after a call.
-fn changed(op: i64, args: &[i64], desk: Desk, events: &mut [i64]) -> Desk {
+pub fn carry_out(op: i64, args: &[i64], desk: &mut Desk, buffers: &mut Buffers) -> Answer {
     let a = arg(args, 0);
     let b = arg(args, 1);
     let c = arg(args, 2);
+    let place = as_usize(a);
+    let k = as_usize(b);
     match op {
-        901 | 915 => desk,
-        902 => new_desk(as_i32(a), as_i32(b), as_usize(c)),
-        903 => set_budget(desk, args),
-        904 => append(desk, args, events),
-        905 => with_lending(desk, as_usize(a), as_usize(b)),
-        906 => {
-            put_number(events, as_usize(a), as_usize(b), c);
-            desk
+        901 | 915 => (),
+        902 => *desk = Desk::new(as_i32(a), as_i32(b), as_usize(c)),
+        903 => desk.budget = budget_of(args),
+        904 => append(args, desk, &mut buffers.events),
+        905 => {
+            desk.extra = place;
+            desk.odd = k;
         }
-        _ => put(op, desk, as_usize(a), b, c),
+        906 => put_number(&mut buffers.events, place, k, c),
+        907 => put_own(&mut desk.track, place, b),
+        908 => {
+            if let Some(param) = desk.param_mut(place) {
+                put_param(param, k, c);
+            }
+        }
+        909 => put_layer(&mut desk.track.layers.items, place, k, c),
+        910 => put_option(&mut desk.track.options, place, k, c),
+        911 => put_note(&mut desk.track.notes.items, place, k, c),
+        912 => put_wave(&mut desk.track.waves.items, place, k, c),
+        913 => put_sine(&mut desk.track.sines.items, place, k, c),
+        914 => put_cycle(&mut desk.cycles, place, k, c),
+        _ => return Err(Failure::Unknown),
     }
-}
-
-pub fn carry_out(op: i64, args: &[i64], desk: Desk, events: &mut [i64]) -> Called {
-    if is_known(op) {
-        return answered(done(), changed(op, args, desk, events));
-    }
-    answered(unknown(), desk)
+    Ok(Answers::None)
 }

@@ -1,28 +1,17 @@
 // Numbers of a target's option.
 use script::args::{as_i32, as_u32};
-use state::{OPTIONS, Track};
 use values::WriteOption;
 
-// Delay, random, low, high, repeat.
-fn option_with(option: WriteOption, k: usize, value: i64) -> WriteOption {
-    let mut o = option;
-    let x = as_i32(value);
-    match k {
-        0 => o.delay = x,
-        1 => o.random = x,
-        2 => o.low = x,
-        3 => o.high = x,
-        _ => o.repeat = as_u32(value),
+// 910: delay, random, low, high, repeat.
+pub fn put_option(options: &mut [WriteOption], key: usize, k: usize, value: i64) {
+    if let Some(option) = options.get_mut(key) {
+        let x = as_i32(value);
+        match k {
+            0 => option.delay = x,
+            1 => option.random = x,
+            2 => option.low = x,
+            3 => option.high = x,
+            _ => option.repeat = as_u32(value),
+        }
     }
-    o
-}
-
-// 910.
-pub fn put_option(track: Track, key: usize, k: usize, value: i64) -> Track {
-    let mut t = track;
-    if key < OPTIONS {
-        let option = t.options[key];
-        t.options[key] = option_with(option, k, value);
-    }
-    t
 }

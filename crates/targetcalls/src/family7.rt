@@ -1,12 +1,8 @@
 // Family 7: what is set ahead for a target (701 to 706, 710 to 716), and what writes it (707 to 709). What a call hands
 // back stands on the desk afterwards, refused or not; a refused call leaves as many records as there were.
-use cycles::{Cycle, PLACES};
 use cycling::{Cycled, write_cc_on_cycle};
-use desk::lending::{handed, numbers_in};
-use desk::lists::{HANDED, count_of, fill};
-use desk::{
-    Called, Desk, answered, left, settled, with_budget, with_count, with_cycles, with_track,
-};
+use desk::lists::{HANDED, list_in};
+use desk::{Buffers, Desk, MOST_NUMBERS};
 use drawing::set_repeat;
 use noting::{Noted, write_cc_on_note};
 use reserving::{
@@ -14,192 +10,137 @@ use reserving::{
     remove_reserve, set_cc_on_note, set_cc_on_note_wave, set_on_cycle, set_on_note,
     set_on_note_sine, set_on_note_wave, set_pb_on_note_wave,
 };
-use script::answer::{refusal, unknown};
-use script::args::{arg, as_i32, as_u32, as_usize};
-use state::{Track, TrackAnswer};
+use script::answer::{Answer, Failure, done};
+use script::args::{as_i32, as_u32, as_usize, front};
 use tables::OnNoteSine;
 use waving::write_cc_on_note_wave;
 use writing::Outcome;
 
-// The desk after a call on the track and the cycle table.
-fn kept_on(desk: Desk, r: Kept) -> Called {
-    let track = r.track;
+// A call on the track and the cycle table.
+fn kept(desk: &mut Desk, r: Kept) -> Answer {
     let cycles = r.cycles;
-    let d = with_track(desk, track);
-    answered(refusal(r.code), with_cycles(d, cycles))
-}
-
-// How many records of the cycle table a call is lent.
-fn places(op: i64, args: &[i64]) -> usize {
-    match op {
-        704 | 706 => as_usize(arg(args, 2)),
-        705 => as_usize(arg(args, 6)),
-        716 => as_usize(arg(args, 0)),
-        _ => as_usize(arg(args, 1)),
-    }
-}
-
-// 702, 711, 713: the track alone.
-fn on_track(op: i64, args: &[i64], track: Track) -> TrackAnswer {
-    let a = as_i32(arg(args, 0));
-    match op {
-        702 => set_repeat(track, a, as_u32(arg(args, 1))),
-        711 => remove_cc_on_note_wave(track, a),
-        _ => remove_cc_on_note(track, a),
-    }
+    desk.cycles = cycles;
+    desk.track = r.track;
+    done(r.code)
 }
 
 // 705: target, type, low, high, length, times.
 fn sine_of(args: &[i64]) -> OnNoteSine {
+    let [target, shape, low, high, length, times] = front::<6>(args);
     OnNoteSine {
-        target: as_i32(arg(args, 0)),
-        shape: as_u32(arg(args, 1)),
-        low: as_i32(arg(args, 2)),
-        high: as_i32(arg(args, 3)),
-        length: as_i32(arg(args, 4)),
-        times: as_i32(arg(args, 5)),
+        target: as_i32(target),
+        shape: as_u32(shape),
+        low: as_i32(low),
+        high: as_i32(high),
+        length: as_i32(length),
+        times: as_i32(times),
     }
 }
 
-// 701, 705, 710, 716: the track and the cycle table, and no list.
-fn on_tables(op: i64, args: &[i64], track: Track, cycles: [Cycle; PLACES]) -> Kept {
-    let a = as_i32(arg(args, 0));
-    let size = places(op, args);
-    match op {
-        701 => remove_reserve(track, size, cycles, a),
-        705 => set_on_note_sine(track, size, cycles, a, sine_of(args)),
-        710 => remove_cc_on(track, size, cycles, a),
-        _ => remove_pb_on_note_wave(track, size, cycles),
-    }
+// 707.
+fn noted(desk: &mut Desk, r: Noted) -> Answer {
+    desk.track = r.track;
+    desk.wrote(r.code, r.count, r.budget)
 }
 
-// 703, 704, 706, 712, 714, 715: the same with a list.
-fn with_list(op: i64, args: &[i64], track: Track, cycles: [Cycle; PLACES], list: &[i32]) -> Kept {
-    let a = as_i32(arg(args, 0));
-    let b = arg(args, 1);
-    let size = places(op, args);
-    match op {
-        703 => set_on_note(track, size, cycles, a, list),
-        704 => set_on_note_wave(track, size, cycles, a, as_u32(b), list),
-        706 => set_on_cycle(track, size, cycles, a, as_i32(b), list),
-        712 => set_cc_on_note_wave(track, size, cycles, a, list),
-        714 => set_cc_on_note(track, size, cycles, a, list),
-        _ => set_pb_on_note_wave(track, size, cycles, a, list),
-    }
+// 708.
+fn waved(desk: &mut Desk, r: Outcome) -> Answer {
+    desk.wrote(r.code, r.count, r.budget)
 }
 
-// The same with the first n numbers of the list.
-fn with_first(op: i64, args: &[i64], desk: Desk, list: &[i32], n: usize) -> Called {
-    if n <= list.len() {
-        let track = desk.track;
-        let cycles = desk.cycles;
-        return kept_on(desk, with_list(op, args, track, cycles, &list[..n]));
-    }
-    answered(unknown(), desk)
-}
-
-// Where the count of a call's list stands.
-fn list_at(op: i64) -> usize {
-    match op {
-        704 | 706 => 3,
-        _ => 2,
-    }
-}
-
-// The same with the arguments' list.
-fn listed(op: i64, args: &[i64], desk: Desk) -> Called {
-    let mut list: [i32; HANDED] = [0; HANDED];
-    let from = list_at(op);
-    fill(&mut list, args, from);
-    with_first(op, args, desk, &list, count_of(args, from))
-}
-
-// The records in use after a call that was handed a list of `own`.
-fn records_left(code: u32, own: usize, count: usize) -> usize {
-    if code != 0 {
-        return own;
-    }
-    count
-}
-
-// 707: the desk after it.
-fn noted_on(desk: Desk, r: Noted) -> Called {
-    let track = r.track;
-    let budget = r.budget;
-    let n = records_left(r.code, desk.count, r.count);
-    let d = with_track(desk, track);
-    let e = with_count(d, n);
-    answered(refusal(r.code), with_budget(e, budget))
-}
-
-// 708: the same.
-fn waved_on(desk: Desk, r: Outcome) -> Called {
-    let budget = r.budget;
-    let n = records_left(r.code, desk.count, r.count);
-    let d = with_count(desk, n);
-    answered(refusal(r.code), with_budget(d, budget))
-}
-
-// 709: the same.
-fn cycled_on(desk: Desk, r: Cycled) -> Called {
+// 709.
+fn cycled(desk: &mut Desk, r: Cycled) -> Answer {
     let cycles = r.cycles;
-    let budget = r.budget;
-    let n = records_left(r.code, desk.count, r.count);
-    let d = with_cycles(desk, cycles);
-    let e = with_count(d, n);
-    answered(refusal(r.code), with_budget(e, budget))
+    desk.cycles = cycles;
+    desk.wrote(r.code, r.count, r.budget)
 }
 
-// 707 to 709 on the list as it is lent, `count` records handed in.
+// A call that writes into the list as it is lent.
 fn on_list(
     op: i64,
     args: &[i64],
-    desk: Desk,
-    events: &mut [i64],
-    count: usize,
+    desk: &mut Desk,
+    events: &mut [i64; MOST_NUMBERS],
     store: &[u8],
-) -> Called {
-    let time = arg(args, 0);
-    let size = places(op, args);
+) -> Answer {
+    let [time, size] = front::<2>(args);
+    let n = desk.handed();
     let track = desk.track;
     let cycles = desk.cycles;
-    let b = desk.budget;
+    let budget = desk.budget;
+    let events = &mut events[..desk.lent()];
     match op {
-        707 => noted_on(desk, write_cc_on_note(track, time, b, events, count)),
-        708 => waved_on(
+        707 => noted(desk, write_cc_on_note(track, time, budget, events, n)),
+        708 => waved(
             desk,
-            write_cc_on_note_wave(track, time, b, events, count, store),
+            write_cc_on_note_wave(track, time, budget, events, n, store),
         ),
-        _ => cycled_on(
+        _ => cycled(
             desk,
-            write_cc_on_cycle(track, size, cycles, time, b, events, count),
+            write_cc_on_cycle(track, as_usize(size), cycles, time, budget, events, n),
         ),
     }
 }
 
-// The same with the desk's own list.
-fn written(op: i64, args: &[i64], desk: Desk, events: &mut [i64], store: &[u8]) -> Called {
-    let h = handed(desk.count, desk.room, desk.extra);
-    let n = numbers_in(desk.room, desk.odd);
-    if events.len() < n {
-        return answered(unknown(), desk);
-    }
-    on_list(op, args, desk, &mut events[..n], h, store)
-}
-
-// 701, 705, 710, 716.
-fn reserved(op: i64, args: &[i64], desk: Desk) -> Called {
+// Where the length of the cycle table stands: at `a`, `b`, `c` or `g` of the arguments.
+pub fn carry_out(op: i64, args: &[i64], desk: &mut Desk, buffers: &mut Buffers) -> Answer {
+    let [a, b, c, _, _, _, g] = front::<7>(args);
+    let target = as_i32(a);
+    let size = as_usize(b);
     let track = desk.track;
     let cycles = desk.cycles;
-    kept_on(desk, on_tables(op, args, track, cycles))
-}
-
-pub fn carry_out(op: i64, args: &[i64], desk: Desk, events: &mut [i64], store: &[u8]) -> Called {
+    let mut room: [i32; HANDED] = [0; HANDED];
     match op {
-        701 | 705 | 710 | 716 => reserved(op, args, desk),
-        702 | 711 | 713 => settled(desk, left(on_track(op, args, desk.track))),
-        703 | 704 | 706 | 712 | 714 | 715 => listed(op, args, desk),
-        707..=709 => written(op, args, desk, events, store),
-        _ => answered(unknown(), desk),
+        701 => kept(desk, remove_reserve(track, size, cycles, target)),
+        702 => desk.keep(set_repeat(track, target, as_u32(b))),
+        703 => {
+            let list = list_in(&mut room, args, 2);
+            kept(desk, set_on_note(track, size, cycles, target, list))
+        }
+        704 => {
+            let list = list_in(&mut room, args, 3);
+            let wave = as_u32(b);
+            kept(
+                desk,
+                set_on_note_wave(track, as_usize(c), cycles, target, wave, list),
+            )
+        }
+        705 => kept(
+            desk,
+            set_on_note_sine(track, as_usize(g), cycles, target, sine_of(args)),
+        ),
+        706 => {
+            let list = list_in(&mut room, args, 3);
+            let length = as_i32(b);
+            kept(
+                desk,
+                set_on_cycle(track, as_usize(c), cycles, target, length, list),
+            )
+        }
+        707..=709 => {
+            let Buffers {
+                events,
+                second: _,
+                store,
+            } = buffers;
+            on_list(op, args, desk, events, store)
+        }
+        710 => kept(desk, remove_cc_on(track, size, cycles, target)),
+        711 => desk.keep(remove_cc_on_note_wave(track, target)),
+        712 => {
+            let list = list_in(&mut room, args, 2);
+            kept(desk, set_cc_on_note_wave(track, size, cycles, target, list))
+        }
+        713 => desk.keep(remove_cc_on_note(track, target)),
+        714 => {
+            let list = list_in(&mut room, args, 2);
+            kept(desk, set_cc_on_note(track, size, cycles, target, list))
+        }
+        715 => {
+            let list = list_in(&mut room, args, 2);
+            kept(desk, set_pb_on_note_wave(track, size, cycles, target, list))
+        }
+        716 => kept(desk, remove_pb_on_note_wave(track, as_usize(a), cycles)),
+        _ => Err(Failure::Unknown),
     }
 }

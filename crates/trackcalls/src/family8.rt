@@ -1,26 +1,19 @@
 // Family 8: a new track, and the numbers of a track that a caller sets.
-use desk::{Called, Desk, answered, begin_track, left, settled};
-use script::answer::unknown;
-use script::args::{arg, as_i32};
-use state::{
-    Track, TrackAnswer, set_cc_on_time_freq, set_channel, set_pb_on_time_freq, set_timepos,
-};
+use desk::Desk;
+use script::answer::{Answer, Failure};
+use script::args::{as_i32, front};
+use state::{set_cc_on_time_freq, set_channel, set_pb_on_time_freq, set_timepos};
 
-// 802 to 805.
-fn set(op: i64, a: i64, track: Track) -> TrackAnswer {
+pub fn carry_out(op: i64, args: &[i64], desk: &mut Desk) -> Answer {
+    let [a, b] = front::<2>(args);
+    let x = as_i32(a);
+    let track = desk.track;
     match op {
-        802 => set_timepos(track, a),
-        803 => set_channel(track, as_i32(a)),
-        804 => set_cc_on_time_freq(track, as_i32(a)),
-        _ => set_pb_on_time_freq(track, as_i32(a)),
-    }
-}
-
-pub fn carry_out(op: i64, args: &[i64], desk: Desk) -> Called {
-    let a = arg(args, 0);
-    match op {
-        801 => begin_track(desk, as_i32(a), as_i32(arg(args, 1))),
-        802..=805 => settled(desk, left(set(op, a, desk.track))),
-        _ => answered(unknown(), desk),
+        801 => desk.begin_track(x, as_i32(b)),
+        802 => desk.keep(set_timepos(track, a)),
+        803 => desk.keep(set_channel(track, x)),
+        804 => desk.keep(set_cc_on_time_freq(track, x)),
+        805 => desk.keep(set_pb_on_time_freq(track, x)),
+        _ => Err(Failure::Unknown),
     }
 }

@@ -1,5 +1,5 @@
 // The calls of a script on a track: its parameters and layers (family 5), options, one value, curves and sines (6), its own
-// numbers (8). Each is handed the track, and the desk is put together again once.
+// numbers (8). Each is handed the desk, and changes it in place.
 #![tactic(auto)]
 
 pub mod family5;
