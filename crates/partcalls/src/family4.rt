@@ -3,7 +3,7 @@
 use desk::lists::{HANDED, count_of, fill, widened};
 use desk::{Called, Desk, answered, param_at, with_named, with_param};
 use params::{NoteParam, ParamAnswer, ParamValue, Told};
-use reserved::{CycleValue, OnCycleTime};
+use reserved::OnCycleTime;
 use script::answer::{Answer, done, one, refusal, two, unknown};
 use script::args::{arg, as_i32, as_u32, as_usize};
 
@@ -61,9 +61,9 @@ fn cycle(start: i64, length: i64, timepos: i64, values: &[i32]) -> Answer {
     }
     let c = made.cycle;
     match c.calc(timepos) {
-        CycleValue::Value(v) => two(1, widened(v)),
-        CycleValue::Nothing => two(0, 0),
-        CycleValue::Refused => refusal(4),
+        Ok(Some(v)) => two(1, widened(v)),
+        Ok(None) => two(0, 0),
+        Err(why) => refusal(why.number()),
     }
 }
 
