@@ -46,9 +46,10 @@ use events::{Event, Made, Size};
 use layers::{Layers, LayersAnswer, Velocity};
 use lending::Answer;
 use noting::Noted;
+use numbers::Refusal;
 use params::{NoteParam, ParamAnswer, ParamValue, Told};
 use playing::{TrackValue, TrackVelocity};
-use reserved::{CycleTimeAnswer, CycleValue, OnCycleTime};
+use reserved::{CycleTimeAnswer, OnCycleTime};
 use sines::SineType;
 use state::{Track, TrackAnswer};
 use tables::{OnNoteSine, SineAnswer};
@@ -316,22 +317,22 @@ pub struct CycleTold {
     pub value: i32,
 }
 
-fn cycle_told(answer: CycleValue) -> CycleTold
+fn cycle_told(answer: Result<Option<i32>, Refusal>) -> CycleTold
     ensures { result ≡ told_of (said answer) }
 {
     match answer {
-        CycleValue::Value(value) => CycleTold {
+        Ok(Some(value)) => CycleTold {
             code: 0,
             found: 1,
             value: value,
         },
-        CycleValue::Nothing => CycleTold {
+        Ok(None) => CycleTold {
             code: 0,
             found: 0,
             value: 0,
         },
-        CycleValue::Refused => CycleTold {
-            code: 4,
+        Err(refusal) => CycleTold {
+            code: refusal.number(),
             found: 0,
             value: 0,
         },

@@ -2,9 +2,8 @@
 // hands back takes its place.
 use desk::lists::{HANDED, list_in};
 use desk::{Desk, param_of};
-use numbers::Refusal;
 use params::{NoteParam, ParamAnswer, ParamValue, Told};
-use reserved::{CycleValue, OnCycleTime};
+use reserved::OnCycleTime;
 use script::answer::{Answer, Answers, Failure, accepted, done, one};
 use script::args::{as_i32, as_u32, as_usize, front};
 
@@ -44,9 +43,9 @@ fn cycle(start: i64, length: i64, timepos: i64, values: &[i32]) -> Answer {
     accepted(made.code)?;
     let c = made.cycle;
     match c.calc(timepos) {
-        CycleValue::Value(v) => Ok(Answers::Two(1, i64::from(v))),
-        CycleValue::Nothing => Ok(Answers::Two(0, 0)),
-        CycleValue::Refused => Err(Failure::from(Refusal::OutOfRange)),
+        Ok(Some(v)) => Ok(Answers::Two(1, i64::from(v))),
+        Ok(None) => Ok(Answers::Two(0, 0)),
+        Err(refusal) => Err(Failure::from(refusal)),
     }
 }
 
