@@ -101,7 +101,7 @@ impl Budget {
     }
 }
 
-// Whether maximum, bytes used and flag are within their ranges.
+// Whether maximum, bytes used and flag are within their ranges. This and the calls below, which docs/COMPARING names, stay functions.
 #[tactic(auto, unfolding(crate::specs::Budgets::ok_budget))]
 pub fn budget_ok(b: Budget) -> bool
     ensures { result ≡ ok_budget b }

@@ -142,7 +142,7 @@ pub fn due_count(c: Cycle, until: i64) -> u64
     if until < c.next {
         0
     } else {
-        let gap = (until - c.next) as u64;
+        let gap = (until - c.next) as u64; // proved not below 0, so `abs_diff` would say no more
         gap / (c.length as u64) + 1
     }
 }

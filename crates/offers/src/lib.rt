@@ -19,6 +19,8 @@ use events::Event;
 use sines::SineType;
 use values::{Offer, Write};
 
+// What is offered is told apart by enums, not by closures: a piece and a source are plain values that a figure holds and copies.
+
 // How a piece's value goes: straight from low to high over its length, or in turns of a sine, each so many steps long.
 #[derive(Clone, Copy)]
 pub enum Shape {
