@@ -52,6 +52,7 @@ pub use reader::read_chunk;
 pub use sorting::events_sort;
 
 // ---- a number in a range
+use numbers::Refusal;
 pub use numbers::value_range;
 
 // ---- records of their own, with their methods
@@ -84,7 +85,10 @@ pub fn current_cc_value(
         return r;
     }
     if !track_ok(track) {
-        return CcValue { code: 4, value: 0 };
+        return CcValue {
+            code: Refusal::OutOfRange.number(),
+            value: 0,
+        };
     }
     r
 }
