@@ -11,20 +11,6 @@ use Rattle.state.specs.Tests.{ok_track}
 use Rattle.state.specs.Calls.{answer, answered}
 use Rattle.drawing.specs.Options.{target_refusal}
 
-module _ (a : Track) (target : ℤ) (ok : Bool) where
-  pub no_target : is_target target ≡ false → target_refusal a target ok ≡ 2
-  unfolding target_refusal
-  no_target e = rw e
-
-  module _ (e : is_target target ≡ true) where
-    pub no_number : (ok_track a && ok) ≡ false → target_refusal a target ok ≡ 4
-    unfolding target_refusal
-    no_number h = rw (e, h)
-
-    pub well : (ok_track a && ok) ≡ true → target_refusal a target ok ≡ 0
-    unfolding target_refusal
-    well h = rw (e, h)
-
 -- where nothing else is asked
 pub with-true : {b r : Bool} → b ≡ r → (b && true) ≡ r
 with-true {b = true} e = e

@@ -45,6 +45,7 @@ pub struct Stepped {
 }
 
 // What a table's lists leave at a note: the table, the budget, the first `made` of `events`, and whether a write was lost.
+// `lost` is a flag by itself: what stands beside it counts whether a write was lost or not.
 #[derive(Clone, Copy)]
 pub struct Played {
     pub notes: NoteTable,

@@ -1,12 +1,9 @@
--- The number of a call on a reservation, read off its tests in their order.
---     wrong_size, no_target, long, no_number, well   which number it is
---     aimed, usable, allowed, roomy   what every test said of a call that is not refused
+-- What every test said of a call on a reservation that is not refused (`aimed`, `usable`, `allowed`, `roomy`).
 use mathlib.Core.Path.{◌≡◌, refl}
 use mathlib.Core.Bool.{Bool, true, false, cond, ◌&&◌}
 use mathlib.Core.List.{List}
 use Prim.Native.Nat.{ℕ}
 use native.Mathlib.Omega.{arith}
-use borrow.Author.Tests.{eq-eqb, ne_eqb}
 use lib.Dec.{eqb}
 use lib.IntN.{ℤ}
 use Rattle.numbers.specs.Limits.{places}
@@ -15,34 +12,6 @@ use Rattle.cycles.specs.declared.Cycle.{Cycle}
 use Rattle.state.specs.declared.Track.{Track}
 use Rattle.state.specs.Tests.{ok_lent}
 use Rattle.reserving.specs.Clearing.{refusal}
-
-module _ (a : Track) (size : ℕ) (cs : List Cycle) (target : ℤ) (short ok room : Bool) where
-  abbrev number : ℕ
-  number = refusal a size cs target short ok room
-
-  pub wrong_size : (size ≡ places → ⊥) → 1 ≡ number
-  unfolding refusal
-  wrong_size h = rw (ne_eqb size places h)
-
-  module _ (s : size ≡ places) where
-    pub no_target : is_target target ≡ false → 2 ≡ number
-    unfolding refusal
-    no_target h = rw (eq-eqb size places s, h)
-
-    module _ (t : is_target target ≡ true) where
-      pub long : short ≡ false → 3 ≡ number
-      unfolding refusal
-      long h = rw (eq-eqb size places s, t, h)
-
-      module _ (l : short ≡ true) where
-        pub no_number : (ok_lent a cs && ok) ≡ false → 4 ≡ number
-        unfolding refusal
-        no_number h = rw (eq-eqb size places s, t, l, h)
-
-        module _ (k : (ok_lent a cs && ok) ≡ true) where
-          pub well : room ≡ true → 0 ≡ number
-          unfolding refusal
-          well h = rw (eq-eqb size places s, t, l, k, h)
 
 passed : (s t l o k r : Bool) → ◌≡◌ {A = ℕ} (cond s (cond t (cond l (cond (o && k) (cond r 0 6) 4) 3) 2) 1) 0 → (t ≡ true) × (o ≡ true) × (k ≡ true) × (r ≡ true)
 passed false t l o k r e = absurd (omega arith)

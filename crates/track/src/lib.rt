@@ -52,6 +52,7 @@ pub use reader::read_chunk;
 pub use sorting::events_sort;
 
 // ---- a number in a range
+use numbers::Refusal;
 pub use numbers::value_range;
 
 // ---- records of their own, with their methods
@@ -64,7 +65,6 @@ pub use params::{NoteParam, ParamAnswer, ParamValue, Told};
 pub use reserved::{CycleTimeAnswer, OnCycleTime};
 pub use sines::SineType;
 use state::track_ok;
-use values::widened;
 
 // The value of controller `number` on the track's channel at its time: that of the last such event in list order at or
 // before it, or the controller's default. Refuses 1, 2, 4.
@@ -77,14 +77,17 @@ pub fn current_cc_value(
 ) -> CcValue
     ensures { result ≡ cc_of_track (length store.now) track number events.now count }
 {
-    let channel = widened(track.channel);
-    let wide = widened(number);
+    let channel = i64::from(track.channel);
+    let wide = i64::from(number);
     let r = cutting::current_cc_value(channel, track.timepos, wide, events, count, store);
     if r.code != 0 {
         return r;
     }
     if !track_ok(track) {
-        return CcValue { code: 4, value: 0 };
+        return CcValue {
+            code: Refusal::OutOfRange.number(),
+            value: 0,
+        };
     }
     r
 }

@@ -30,15 +30,7 @@ unfolding ok_budget is_bytes
 budget-small b e = leb-true b.maximum byte_limit (left (is_bytes b.maximum) (is_bytes b.used) (left (is_bytes b.maximum && is_bytes b.used) (leb b.over 1) e))
 
 module _ (store : ℕ) (a : Track) (start : ℤ) (b : Budget) (l : List ℤ) (count : ℕ) where
-  pub no-list : is_list l count ≡ false → note_refusal store a start b l count ≡ 1
-  unfolding note_refusal
-  no-list e = rw e
-
   module _ (list : is_list l count ≡ true) where
-    pub no-numbers : (is_time start && ok_track a && ok_budget b) ≡ false → note_refusal store a start b l count ≡ 4
-    unfolding note_refusal
-    no-numbers e = rw (list, e)
-
     -- the records decide, and then the room
     pub numbers-well : (is_time start && ok_track a && ok_budget b) ≡ true
         → note_refusal store a start b l count ≡ cond (ok_events store l count) (room_refusal (after_note a start b (events_of l count)) (rows_of l)) 4

@@ -25,7 +25,7 @@ returns-then-not-track_ok c =
     let n = length a.store.now in
     let asked : c.current_cc_value-r.result ≡ cc_answer n a.events.now a.count (asked_of a.track a.number) =
     asked-with n a.track a.number a.events.now a.count _ _ _ _ (search rules) (search rules) (search rules) c.current_cc_value-r.ensures in
-    bad-track n a.track a.number a.events.now a.count (sym (code-of _ _ asked) ∙ c.if-r-ne0.false) (sym c.track_ok.ensures ∙ c.if-not-track_ok.true)
+    rw c.number.ensures (bad-track n a.track a.number a.events.now a.count (sym (code-of _ _ asked) ∙ c.if-r-ne0.false) (sym c.track_ok.ensures ∙ c.if-not-track_ok.true))
 
 pub returns : goal.returns
 returns c =
