@@ -42,6 +42,7 @@ pub struct Desk {
 impl Desk {
     // A desk with a new track, no cycles, and an empty list of `room` records.
     pub fn new(timebase: i32, channel: i32, room: usize) -> Desk {
+        // by way of a variable: the borrow checker takes no array of a call's result straight into a field
         let cycles = no_cycles().items;
         Desk {
             track: Track::new(timebase, channel).track,
@@ -98,6 +99,7 @@ impl Desk {
         let made = Track::new(timebase, channel);
         accepted(made.code)?;
         self.track = made.track;
+        // by way of a variable, as above
         let none = no_cycles().items;
         self.cycles = none;
         Ok(Answers::None)

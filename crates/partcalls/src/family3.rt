@@ -140,6 +140,7 @@ fn on_lists(
 }
 
 pub fn carry_out(op: i64, args: &[i64], desk: &mut Desk, buffers: &mut Buffers) -> Answer {
+    // taken apart and handed on: the borrow checker does not cover two fields lent behind one reference
     let Buffers {
         events,
         second,

@@ -18,6 +18,7 @@ use writing::Outcome;
 
 // A call on the track and the cycle table.
 fn kept(desk: &mut Desk, r: Kept) -> Answer {
+    // by way of a variable: the borrow checker takes no array straight from field to field
     let cycles = r.cycles;
     desk.cycles = cycles;
     desk.track = r.track;
@@ -50,6 +51,7 @@ fn waved(desk: &mut Desk, r: Outcome) -> Answer {
 
 // 709.
 fn cycled(desk: &mut Desk, r: Cycled) -> Answer {
+    // by way of a variable, as above
     let cycles = r.cycles;
     desk.cycles = cycles;
     desk.wrote(r.code, r.count, r.budget)

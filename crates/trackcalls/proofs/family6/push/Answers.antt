@@ -1,6 +1,6 @@
 -- `push` is safe: time and value passed their tests, so that the write is ready and the offer near, and where the list is not
 -- full there is a record after its last.
-use Rattle.std.proofs.Common.{◌≡◌, ◌∙◌, sym, arith, ◌≤◌, ◌<◌, ◌^◌, ℤ, w64, to_z, of_z, to_z-of_z, true}
+use Rattle.std.proofs.Common.{◌≡◌, ◌∙◌, sym, arith, ◌≤◌, ◌^◌, ℤ, w64, to_z, of_z, to_z-of_z, true}
 use mir.Val.{SFits}
 use Rattle.std.specs.Int.Signed.{mag}
 use Rattle.std.proofs.lemmas.Bool.{ltb-true}
