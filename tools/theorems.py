@@ -39,7 +39,7 @@ class Call:
         self.lent, self.of, self.name = lent, of, name
         _, self.crate, _, self.file = path.split('/')
         space = '    ' if of else ''
-        m = re.search(rf'^{space}pub fn {name}\((.*?)\)(?: -> (\w+))?\s*\n(.*?)\n{space}\{{$', text, re.S | re.M)
+        m = re.search(rf'^{space}pub fn {name}\((.*?)\)(?: -> (\S[^\n]*?))?\s*\n(.*?)\n{space}\{{$', text, re.S | re.M)
         self.params, self.result, self.ensures = m[1], m[2], m[3]
         if 'requires' in self.ensures:
             sys.exit(f'theorems: {self.title()} has a `requires`')
@@ -168,7 +168,7 @@ def main():
         named = set()
         for n, crate in call.names.items():
             named |= known.named(known.records[crate, n]) if (crate, n) in known.records else {n}
-        answer = re.search(rf'pub struct {call.result} \{{\n(.*?)\n\}}', '\n'.join(read(p) for c in os.listdir('crates') for p in files(f'crates/{c}/src', '.rt')), re.S)
+        answer = re.search(rf'pub struct {re.escape(call.result or "")} \{{\n(.*?)\n\}}', '\n'.join(read(p) for c in os.listdir('crates') for p in files(f'crates/{c}/src', '.rt')), re.S)
         parts = set(re.findall(r'pub (\w+):', answer[1])) if answer else set()
         numbered = 'code' in parts or call.result == 'u32' or 'said' in call.names
         whole = [call.field(), kebab(call.of or '') + '-' + call.field()] + (['of-cycle'] if 'said' in call.names else [])

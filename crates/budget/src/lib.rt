@@ -75,33 +75,35 @@ impl Budget {
             }
         }
     }
+}
 
-    // The bytes left: maximum less used, at least 0.
-    pub fn free_bytes(self) -> u32
-        ensures { result ≡ free self }
-    {
-        self.maximum.saturating_sub(self.used)
-    }
+// Functions and not methods, here and below: a method of a type that `track` hands on would be a public call.
 
-    // How many controllers' or bends' events still fit.
-    pub fn remaining_event_capacity(self) -> u32
-        ensures { result ≡ room value_bytes self }
-    {
-        self.free_bytes() / VALUE_BYTES
-    }
+// The bytes left: maximum less used, at least 0.
+pub fn free_bytes(b: Budget) -> u32
+    ensures { result ≡ free b }
+{
+    b.maximum.saturating_sub(b.used)
+}
 
-    // The budget with its seed stepped once.
-    pub fn stepped(self) -> Budget
-        ensures { result ≡ stepped self }
-    {
-        Budget {
-            seed: numbers::next_rand(self.seed),
-            ..self
-        }
+// How many controllers' or bends' events still fit.
+pub fn remaining_event_capacity(b: Budget) -> u32
+    ensures { result ≡ room value_bytes b }
+{
+    free_bytes(b) / VALUE_BYTES
+}
+
+// The budget with its seed stepped once.
+pub fn step_seed(b: Budget) -> Budget
+    ensures { result ≡ stepped b }
+{
+    Budget {
+        seed: numbers::next_rand(b.seed),
+        ..b
     }
 }
 
-// Whether maximum, bytes used and flag are within their ranges. This and the calls below, which docs/COMPARING names, stay functions.
+// Whether maximum, bytes used and flag are within their ranges.
 #[tactic(auto, unfolding(crate::specs::Budgets::ok_budget))]
 pub fn budget_ok(b: Budget) -> bool
     ensures { result ≡ ok_budget b }
@@ -113,7 +115,7 @@ pub fn budget_ok(b: Budget) -> bool
 pub fn safe_iteration_limit(b: Budget) -> u32
     ensures { result ≡ step_budget b }
 {
-    b.remaining_event_capacity() + 1
+    remaining_event_capacity(b) + 1
 }
 
 // `value` moved by random over `width`, and the budget with its seed stepped. A width of 0 or less gives the
@@ -125,7 +127,7 @@ pub fn calc_rand_value(b: Budget, value: i64, width: i64) -> Rolled
     if width <= 0 {
         Rolled { value, budget: b }
     } else {
-        let next = b.stepped();
+        let next = step_seed(b);
         Rolled {
             value: numbers::spread(value, width, next.seed),
             budget: next,
@@ -137,7 +139,7 @@ pub fn calc_rand_value(b: Budget, value: i64, width: i64) -> Rolled
 pub fn reserve_event(b: Budget, size: u32) -> Reserved
     ensures { (result.budget ≡ reserved size b) × (result.fits ≡ fits size b) }
 {
-    if size <= b.free_bytes() {
+    if size <= free_bytes(b) {
         Reserved {
             budget: Budget {
                 used: b.used + size,

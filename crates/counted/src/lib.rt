@@ -13,12 +13,11 @@ use numbers::{Refusal, ask, is_length, is_number};
 // How many numbers a list may have.
 pub const LIST_LIMIT: usize = 192;
 
-// An array with its count and no slice or Vec: C lends it within a track, and nothing here takes memory.
 #[repr(C)]
 #[derive(Clone, Copy)]
 pub struct Numbers {
     pub count: usize,
-    pub items: [i32; LIST_LIMIT],
+    pub items: [i32; LIST_LIMIT], // an array with its count: C lends it within a track, and nothing here takes memory
 }
 
 // The empty list.

@@ -231,7 +231,7 @@ pub fn owed_by(table: [Cycle; PLACES], used: usize, until: i64) -> u64
 pub fn gains(b: Budget, owes: u64) -> u64
     ensures { result ≡ min (room value_bytes b) (min cycle_writes owes) }
 {
-    owes.min(u64::from(b.remaining_event_capacity()))
+    owes.min(u64::from(budget::remaining_event_capacity(b)))
         .min(CYCLE_WRITES)
 }
 

@@ -18,7 +18,7 @@ use budget::{Budget, budget_ok};
 use counted::{curve_ok, empty, numbers_of};
 use cycles::key_of;
 use eventlist::list_ok;
-use numbers::{Refusal, ask, code_of, is_controller, is_length, is_number, is_random, is_target};
+use numbers::{Refusal, ask, code_of, is_length, is_number, is_random, is_target};
 use sines::SineType;
 use state::{Track, TrackAnswer, track_ok};
 use tables::{NoteTable, OnNoteSine, OnNoteValues, sine_ok};
@@ -177,10 +177,9 @@ fn bend_freq(freq: i32, timebase: i32) -> u64
 fn freq_for(target: i32, ccfreq: i32, pbfreq: i32, timebase: i32) -> u64
     ensures { result ≡ freq_for target ccfreq pbfreq timebase }
 {
-    if is_controller(i64::from(target)) {
-        at_least_one(steps_of(ccfreq))
-    } else {
-        bend_freq(pbfreq, timebase)
+    match target {
+        0..=127 => at_least_one(steps_of(ccfreq)),
+        _ => bend_freq(pbfreq, timebase),
     }
 }
 

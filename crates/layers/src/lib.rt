@@ -27,12 +27,11 @@ pub struct Layer {
     pub reserve: Reserve,
 }
 
-// An array with its count and no Vec: C lends it within a track, and nothing here takes memory.
 #[repr(C)]
 #[derive(Clone, Copy)]
 pub struct Layers {
     pub count: usize,
-    pub items: [Layer; LAYER_LIMIT],
+    pub items: [Layer; LAYER_LIMIT], // an array with its count: C lends it within a track, and nothing here takes memory
 }
 
 // The layers as a call leaves them.

@@ -72,7 +72,7 @@ fn may_go(round: Round, c: Cycle, long: usize, s: Going) -> bool
     let timely = is_time(round.until);
     if (s.code == 0) & (0 < s.used) & ok & timely & (long % WIDTH == 0) & (s.count <= rows) {
         let made = s.left.min(due_count(c, round.until));
-        let more = u64::from(s.budget.remaining_event_capacity()).min(made);
+        let more = u64::from(budget::remaining_event_capacity(s.budget)).min(made);
         s.count as u64 + more <= rows as u64
     } else {
         false

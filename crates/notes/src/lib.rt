@@ -19,7 +19,7 @@ use numbers::{Refusal, ask, is_event_time};
 fn is_note(e: Event) -> bool
     ensures { result ≡ is_note e }
 {
-    e.kind == NOTE_ON
+    matches!(e.kind, NOTE_ON)
 }
 
 // The end of a note.

@@ -15,14 +15,13 @@ use reserved::{
     NOTHING, Reserve, Taken, curve_asked, cycle_asked, idle_reserve, notes_asked, reserve_ok,
 };
 
-// A flag is a number and an end is one beside it, since C lends them within a track: a flag is 0 or 1, and where
-// `ranged` is 0 there is no range, where `maxed` is 0 no maximum.
+// A flag is 0 or 1: where `ranged` is 0 there is no range, where `maxed` is 0 no maximum.
 #[repr(C)]
 #[derive(Clone, Copy)]
 pub struct NoteParam {
     pub reserve: Reserve,
     pub random: i32,
-    pub ranged: u32,
+    pub ranged: u32, // a flag with numbers beside it, here and below: C lends them within a track
     pub low: i32,
     pub high: i32,
     pub delay: i32,
@@ -182,20 +181,21 @@ impl NoteParam {
     }
 
     // What a note took, and the parameter with what is then reserved; or the number 4, and the parameter as it was given.
-    fn taking(self, taken: Option<Taken>) -> ParamValue
+    fn taking(mut self, taken: Option<Taken>) -> ParamValue
         ensures { result ≡ taking self taken }
     {
-        match taken {
-            Some(Taken { value, reserve }) => ParamValue {
-                code: 0,
-                value,
-                param: NoteParam { reserve, ..self },
-            },
-            None => ParamValue {
+        let Some(Taken { value, reserve }) = taken else {
+            return ParamValue {
                 code: Refusal::OutOfRange.number(),
                 value: 0,
                 param: self,
-            },
+            };
+        };
+        self.reserve = reserve;
+        ParamValue {
+            code: 0,
+            value,
+            param: self,
         }
     }
 

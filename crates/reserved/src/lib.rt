@@ -237,10 +237,10 @@ fn cycle_value(reserve: Reserve, timepos: i64, def: i32) -> i32
         length: reserve.length,
         values: reserve.values,
     };
-    match cycle.calc(timepos) {
-        Ok(Some(value)) => value,
-        _ => def,
-    }
+    let Ok(Some(value)) = cycle.calc(timepos) else {
+        return def;
+    };
+    value
 }
 
 // The value of a curve at a time, or the default before it and past it; past it nothing stays reserved.

@@ -263,7 +263,7 @@ impl OnNoteSine {
 #[derive(Clone, Copy)]
 pub struct Table<T> {
     pub count: usize,
-    pub items: [T; PLACES],
+    pub items: [T; PLACES], // an array with its count: C lends it within a track, and nothing here takes memory
 }
 
 // A table of lists for notes.
@@ -330,8 +330,8 @@ impl<T: Reservation> Table<T> {
 // The keys of the targets that have a reservation, as they are gathered.
 #[derive(Clone, Copy)]
 pub struct Keys {
-    pub count: usize, // beside an array, since the heap is not used
-    pub items: [usize; KEYS],
+    pub count: usize,
+    pub items: [usize; KEYS], // an array with its count: nothing here takes memory
 }
 
 impl Keys {

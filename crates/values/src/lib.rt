@@ -128,10 +128,9 @@ fn limit(option: WriteOption, v: i64) -> i64
 pub fn kind_of(target: i32) -> i64
     ensures { result ≡ kind_of target }
 {
-    if numbers::is_controller(i64::from(target)) {
-        events::CONTROL_CHANGE
-    } else {
-        events::PITCH_BEND
+    match target {
+        0..=127 => events::CONTROL_CHANGE,
+        _ => events::PITCH_BEND,
     }
 }
 
@@ -158,11 +157,9 @@ fn time_of(w: Write, step: u64) -> i64
 fn make_event(target: i32, time: i64, channel: i32, v: i64) -> Event
     ensures { result ≡ event_for target time channel v }
 {
-    let number = i64::from(target);
-    if numbers::is_controller(number) {
-        events::cc_event(time, i64::from(channel), number, v)
-    } else {
-        events::pitch_bend_event(time, i64::from(channel), v)
+    match target {
+        0..=127 => events::cc_event(time, i64::from(channel), i64::from(target), v),
+        _ => events::pitch_bend_event(time, i64::from(channel), v),
     }
 }
 
