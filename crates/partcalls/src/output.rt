@@ -1,9 +1,7 @@
 // Call 311: the list written as a track chunk into an output of its own. Afterwards the output stands in the second list, its
 // length first, each byte a number.
-ghost use Rattle.std.specs.Prelude.{◌≤◌};
-
 use chunks::write_chunk;
-use script::answer::{Answer, one};
+use script::answer::{Answer, Failure, one};
 use script::args::{counted, store};
 
 // The longest output.
@@ -33,11 +31,11 @@ pub fn put_chunk(
     store: &[u8],
     room: usize,
     numbers: &mut [i64],
-) -> Answer
-    requires { room ≤ 81920 }
-{
+) -> Answer {
     let mut bytes: [u8; MOST_BYTES] = [0; MOST_BYTES];
-    let out = &mut bytes[..room];
+    let Some(out) = bytes.get_mut(..room) else {
+        return Err(Failure::Unknown);
+    };
     fill_output(out);
     let r = write_chunk(events, count, store, out);
     copy_output(out, numbers);

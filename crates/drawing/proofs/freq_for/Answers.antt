@@ -25,7 +25,7 @@ unfolding freq_for
 returns-in_default c =
     let f = c.ranges.target in
     let q : is_controller c.args.target ≡ false = elim c.in_default.branch [
-      in_default-via-then-target-lt0 w ↦ told_below c.args.target (lt-back-l (pos 0) f (search rules))
+      | in_default-via-then-target-lt0 w ↦ told_below c.args.target (lt-back-l (pos 0) f (search rules))
       | in_default-via-else-target-lt0+else-target-lt128 w ↦ told-above c.args.target (lt-back-l (pos 128) f (search rules))
     ] in
     c.bend_freq.ensures ∙ ap₂ bend_freq (to_z-of_z c.ranges.pbfreq) (to_z-of_z c.ranges.timebase) ∙ rw q

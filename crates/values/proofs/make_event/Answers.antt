@@ -26,7 +26,7 @@ unfolding event_for
 returns-in_default c =
     let f = c.ranges.target in
     let q : is_controller c.args.target ≡ false = elim c.in_default.branch [
-      in_default-via-then-target-lt0 w ↦ told_below c.args.target (lt-back-l (pos 0) f (search rules))
+      | in_default-via-then-target-lt0 w ↦ told_below c.args.target (lt-back-l (pos 0) f (search rules))
       | in_default-via-else-target-lt0+else-target-lt128 w ↦ told-above c.args.target (lt-back-l (pos 128) f (search rules))
     ] in
     let on = to_z-of_z {w = w64} (sfits_of c.from-in_default.type_inv) ∙ c.from-in_default.ensures ∙ to_z-of_z c.ranges.channel in
