@@ -44,7 +44,7 @@ class Library:
             ps = [tuple(x.strip() for x in p.split(':')) for p in re.split(r',(?![^\[]*\])', params) if p.strip()]
             self.functions.append((name, ' '.join(lines), ps, result))
         self.homes = homes_of(text)
-        self.structs, self.instances, self.limit = {}, {}, int(constant(LIMIT, 'counted'))
+        self.structs, self.limit = {}, int(constant(LIMIT, 'counted'))
         for _, _, ps, result in self.functions:
             for t in [t for _, t in ps] + [result]:
                 for s in re.findall(r'\b[A-Z]\w*', t or ''):
@@ -54,16 +54,12 @@ class Library:
         if name in self.structs:
             return
         text = source(crate)
-        instance = re.search(r'((?:^//[^\n]*\n)*)pub type %s = (\w+)<(\w+)>;' % name, text, re.M)
-        generic, of_what = (instance[2], instance[3]) if instance else (name, None)
-        m = re.search(STRUCT + r'pub struct %s(?:<(\w+)>)? \{\n(.*?)\n\}' % generic, text, re.S)
+        m = re.search(STRUCT + r'pub struct %s \{\n(.*?)\n\}' % name, text, re.S)
         if not m:
             sys.exit(f'{crate}: no #[repr(C)] struct {name}')
         homes = homes_of(text)
         fields = []
-        for f, t in re.findall(r'pub (\w+): ([^,]+),', m[2]):
-            if of_what:
-                t = re.sub(r'\b%s\b' % m[1], of_what, t)
+        for f, t in re.findall(r'pub (\w+): ([^,]+),', m[1]):
             a = re.fullmatch(r'\[(\w+); (\w+)\]', t)
             of, n = (a[1], a[2]) if a else (t, None)
             if n and not n.isdigit() and n != LIMIT:
@@ -71,9 +67,7 @@ class Library:
             if of[0].isupper():
                 self.reach(of, homes.get(of, crate))
             fields.append((f, of, n))
-        about = instance[1] if instance else re.search(r'((?:^//[^\n]*\n)*)' + STRUCT + 'pub struct %s ' % name, text, re.M)[1]
-        if instance:
-            self.instances[name] = (generic, of_what)
+        about = re.search(r'((?:^//[^\n]*\n)*)' + STRUCT + 'pub struct %s ' % name, text, re.M)[1]
         self.structs[name] = (crate, fields, ' '.join(l.removeprefix('//').strip() for l in about.strip().split('\n')))
 
     def bytes_of(self, t):
@@ -199,29 +193,16 @@ def theorems(lib):
            '-- of each field. include/dollavir.h asserts the same numbers of the same records. Made by tools/header.py.',
            'use mathlib.Core.Path.{◌≡◌, refl}', 'use mathlib.Core.List.{List, [], ◌∷◌}', 'use Prim.Native.Nat.{ℕ, zero, ◌+◌}',
            'use mir.Syntax.{Ty, Tys, tnil, tcons, ty_int, ty_bool, ty_float, ty_ptr, ty_ref, ty_array, ty_unit, ty_struct, ty_enum, ty_param, ty_const, ty_array_p, ty_named}', 'use prog.Memory.{size, align, up}']
-    if lib.instances:
-        out.append('use denote.RattleType.{RattleType}')
-    for crate, generic in dict.fromkeys((lib.structs[n][0], g) for n, (g, _) in lib.instances.items()):
-        out.append(f"use Rattle.{crate}.specs.contracts.{generic} as {generic}'")
-    for crate, of in dict.fromkeys((lib.structs[of][0], of) for _, of in lib.instances.values()):
-        out.append(f"use Rattle.{crate}.specs.contracts.{of} as {of}-row")
     for name, (crate, _, _) in lib.structs.items():
-        if name not in lib.instances:
-            out.append(f"use Rattle.{crate}.proofs.{name}.TheLaws as {name}'")
+        out.append(f"use Rattle.{crate}.proofs.{name}.TheLaws as {name}'")
     out += ['', '-- the place of each field, where the first may stand at k', 'abbrev pub places : ℕ → Tys → List ℕ', 'places k tnil = []',
             'places k (tcons τ τs) = up (align τ) k ∷ places (up (align τ) k + size τ) τs', '',
             '-- a struct\'s size, alignment and places', 'abbrev pub lies : Ty → List ℕ', 'lies (ty_struct ν τs) = size (ty_struct ν τs) ∷ align (ty_struct ν τs) ∷ places zero τs']
     out += [f'lies {t} = []' for t in TYPES]
-    if lib.instances:
-        out += ['', '-- the record that a generic one is of a type', 'abbrev pub first : List Ty → Ty', 'first [] = ty_unit', 'first (τ ∷ τs) = τ', '', 'abbrev pub record_of : RattleType → Ty', 'record_of r = first r.mir']
     for name in lib.structs:
         size, align, places = lib.layout(name)
         low = snake(name).removeprefix('dollavir_').replace('_', '-')
-        mir = f"{name}'.mir"
-        if name in lib.instances:
-            generic, of = lib.instances[name]
-            mir = f"(record_of ({generic}'.the_row {of}-row.the_row))"
-        out += ['', f"pub {low}-lies : lies {mir} ≡ " + ' ∷ '.join(map(str, [size, align] + places)) + ' ∷ []', f'{low}-lies = refl']
+        out += ['', f"pub {low}-lies : lies {name}'.mir ≡ " + ' ∷ '.join(map(str, [size, align] + places)) + ' ∷ []', f'{low}-lies = refl']
     return '\n'.join(out) + '\n'
 
 

@@ -5,11 +5,6 @@ use mathlib.Core.List.{List, [], ◌∷◌}
 use Prim.Native.Nat.{ℕ, zero, ◌+◌}
 use mir.Syntax.{Ty, Tys, tnil, tcons, ty_int, ty_bool, ty_float, ty_ptr, ty_ref, ty_array, ty_unit, ty_struct, ty_enum, ty_param, ty_const, ty_array_p, ty_named}
 use prog.Memory.{size, align, up}
-use denote.RattleType.{RattleType}
-use Rattle.tables.specs.contracts.Table as Table'
-use Rattle.tables.specs.contracts.OnNoteValues as OnNoteValues-row
-use Rattle.tables.specs.contracts.OnNoteWave as OnNoteWave-row
-use Rattle.tables.specs.contracts.OnNoteSine as OnNoteSine-row
 use Rattle.counted.proofs.Numbers.TheLaws as Numbers'
 use Rattle.reserved.proofs.Reserve.TheLaws as Reserve'
 use Rattle.params.proofs.NoteParam.TheLaws as NoteParam'
@@ -17,8 +12,11 @@ use Rattle.layers.proofs.Layer.TheLaws as Layer'
 use Rattle.layers.proofs.Layers.TheLaws as Layers'
 use Rattle.values.proofs.WriteOption.TheLaws as WriteOption'
 use Rattle.tables.proofs.OnNoteValues.TheLaws as OnNoteValues'
+use Rattle.tables.proofs.NoteTable.TheLaws as NoteTable'
 use Rattle.tables.proofs.OnNoteWave.TheLaws as OnNoteWave'
+use Rattle.tables.proofs.WaveTable.TheLaws as WaveTable'
 use Rattle.tables.proofs.OnNoteSine.TheLaws as OnNoteSine'
+use Rattle.tables.proofs.SineTable.TheLaws as SineTable'
 use Rattle.state.proofs.Track.TheLaws as Track'
 use Rattle.state.proofs.TrackAnswer.TheLaws as TrackAnswer'
 use Rattle.budget.proofs.Budget.TheLaws as Budget'
@@ -51,14 +49,6 @@ lies (ty_const n) = []
 lies (ty_array_p τ n) = []
 lies (ty_named ν τs) = []
 
--- the record that a generic one is of a type
-abbrev pub first : List Ty → Ty
-first [] = ty_unit
-first (τ ∷ τs) = τ
-
-abbrev pub record_of : RattleType → Ty
-record_of r = first r.mir
-
 pub numbers-lies : lies Numbers'.mir ≡ 776 ∷ 8 ∷ 0 ∷ 8 ∷ []
 numbers-lies = refl
 
@@ -80,19 +70,19 @@ write-option-lies = refl
 pub on-note-values-lies : lies OnNoteValues'.mir ≡ 800 ∷ 8 ∷ 0 ∷ 8 ∷ 16 ∷ 24 ∷ []
 on-note-values-lies = refl
 
-pub note-table-lies : lies (record_of (Table'.the_row OnNoteValues-row.the_row)) ≡ 12808 ∷ 8 ∷ 0 ∷ 8 ∷ []
+pub note-table-lies : lies NoteTable'.mir ≡ 12808 ∷ 8 ∷ 0 ∷ 8 ∷ []
 note-table-lies = refl
 
 pub on-note-wave-lies : lies OnNoteWave'.mir ≡ 784 ∷ 8 ∷ 0 ∷ 4 ∷ 8 ∷ []
 on-note-wave-lies = refl
 
-pub wave-table-lies : lies (record_of (Table'.the_row OnNoteWave-row.the_row)) ≡ 12552 ∷ 8 ∷ 0 ∷ 8 ∷ []
+pub wave-table-lies : lies WaveTable'.mir ≡ 12552 ∷ 8 ∷ 0 ∷ 8 ∷ []
 wave-table-lies = refl
 
 pub on-note-sine-lies : lies OnNoteSine'.mir ≡ 24 ∷ 4 ∷ 0 ∷ 4 ∷ 8 ∷ 12 ∷ 16 ∷ 20 ∷ []
 on-note-sine-lies = refl
 
-pub sine-table-lies : lies (record_of (Table'.the_row OnNoteSine-row.the_row)) ≡ 392 ∷ 8 ∷ 0 ∷ 8 ∷ []
+pub sine-table-lies : lies SineTable'.mir ≡ 392 ∷ 8 ∷ 0 ∷ 8 ∷ []
 sine-table-lies = refl
 
 pub track-lies : lies Track'.mir ≡ 46168 ∷ 8 ∷ 0 ∷ 8 ∷ 16 ∷ 20 ∷ 24 ∷ 28 ∷ 32 ∷ 36 ∷ 40 ∷ 44 ∷ 48 ∷ 888 ∷ 1728 ∷ 2568 ∷ 3408 ∷ 4248 ∷ 17312 ∷ 20408 ∷ 33216 ∷ 45768 ∷ 46160 ∷ []

@@ -21,7 +21,7 @@ use Rattle.values.proofs.Options.{option-ranged, option-repeat, option-ends, opt
 use Rattle.cycles.specs.Due.{key}
 use Rattle.tables.specs.declared.OnNoteValues.{OnNoteValues}
 use Rattle.tables.specs.Sixteen.{ok_sixteen}
-use Rattle.tables.specs.Tables.{NoteTable}
+use Rattle.tables.specs.declared.NoteTable.{NoteTable}
 use Rattle.tables.specs.Reservations.{ok_values}
 use Rattle.tables.specs.Tables.{note_at, note_keys, ok_notes, lone}
 use Rattle.state.specs.declared.Track.{Track}

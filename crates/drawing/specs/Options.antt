@@ -7,7 +7,7 @@ use Rattle.values.specs.declared.WriteOption.{WriteOption}
 use Rattle.values.specs.Options.{new_option}
 use Rattle.cycles.specs.Due.{key}
 use Rattle.tables.specs.declared.OnNoteValues.{OnNoteValues}
-use Rattle.tables.specs.Tables.{NoteTable}
+use Rattle.tables.specs.declared.NoteTable.{NoteTable}
 use Rattle.tables.specs.Tables.{note_at}
 use Rattle.state.specs.declared.Track.{Track}
 use Rattle.state.specs.declared.TrackAnswer.{TrackAnswer}

@@ -16,7 +16,7 @@ use Rattle.budget.specs.Budgets.{fits}
 use Rattle.values.specs.declared.WriteOption.{WriteOption}
 use Rattle.cycles.specs.Turns.{option_of}
 use Rattle.tables.specs.declared.OnNoteValues.{OnNoteValues}
-use Rattle.tables.specs.Tables.{NoteTable}
+use Rattle.tables.specs.declared.NoteTable.{NoteTable}
 use Rattle.tables.specs.Tables.{no_note}
 use Rattle.noting.specs.declared.Onset.{Onset}
 use Rattle.noting.specs.declared.Played.{Played}

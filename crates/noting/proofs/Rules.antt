@@ -21,7 +21,7 @@ use Rattle.counted.proofs.Counted.{numbers-count}
 use Rattle.reserved.proofs.Cycles.{or_left}
 use Rattle.tables.specs.declared.OnNoteValues.{OnNoteValues}
 use Rattle.tables.specs.Sixteen.{ok_sixteen}
-use Rattle.tables.specs.Tables.{NoteTable}
+use Rattle.tables.specs.declared.NoteTable.{NoteTable}
 use Rattle.tables.specs.Reservations.{ok_values}
 use Rattle.tables.specs.Tables.{ok_notes}
 use Rattle.noting.specs.Lists.{at_end, silent, place_of, advanced}

@@ -24,7 +24,7 @@ use Rattle.values.specs.declared.Wrote.{Wrote}
 use Rattle.values.specs.Value.{wrote_of}
 use Rattle.cycles.specs.Turns.{option_of}
 use Rattle.tables.specs.declared.OnNoteValues.{OnNoteValues}
-use Rattle.tables.specs.Tables.{NoteTable}
+use Rattle.tables.specs.declared.NoteTable.{NoteTable}
 use Rattle.tables.specs.Tables.{no_note}
 use Rattle.noting.specs.declared.Onset.{Onset}
 use Rattle.noting.specs.declared.Stepped.{Stepped}

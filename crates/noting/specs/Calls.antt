@@ -9,7 +9,7 @@ use Rattle.events.specs.declared.Event.{Event}
 use Rattle.events.specs.Events.{zero_event}
 use Rattle.eventlist.specs.Rows.{numbers_of, rows_of, events_of}
 use Rattle.eventlist.specs.Sound.{is_list}
-use Rattle.tables.specs.Tables.{NoteTable}
+use Rattle.tables.specs.declared.NoteTable.{NoteTable}
 use Rattle.state.specs.declared.Track.{Track}
 use Rattle.state.specs.Track.{with_tables}
 use Rattle.state.specs.Tests.{ok_track}

@@ -29,10 +29,10 @@ use Rattle.tables.specs.declared.OnNoteValues.{OnNoteValues}
 use Rattle.tables.specs.declared.OnNoteWave.{OnNoteWave}
 use Rattle.tables.specs.declared.OnNoteSine.{OnNoteSine}
 use Rattle.tables.specs.Sixteen.{ok_sixteen}
-use Rattle.tables.specs.Tables.{NoteTable}
-use Rattle.tables.specs.Tables.{WaveTable}
-use Rattle.tables.specs.Tables.{SineTable}
-use Rattle.tables.specs.Tables.{CycleTable}
+use Rattle.tables.specs.declared.NoteTable.{NoteTable}
+use Rattle.tables.specs.declared.WaveTable.{WaveTable}
+use Rattle.tables.specs.declared.SineTable.{SineTable}
+use Rattle.tables.specs.declared.CycleTable.{CycleTable}
 use Rattle.tables.specs.Reservations.{ok_values, ok_wave, ok_sine}
 use Rattle.tables.specs.Tables.{no_note, no_wave, no_sine, note_at, wave_at, sine_at, cycle_at, notes_left, waves_left, sines_left, cycles_left, notes_without, waves_without, sines_without, cycles_without, notes_with, waves_with, sines_with, cycles_with, ok_notes, ok_waves, ok_sines, ok_cycles, note_keys, wave_keys, sine_keys, cycle_keys, lone}
 use Rattle.tables.proofs.Keeping.{lone-taken, lone-note, lone-wave, lone-sine, lone-cycle}

@@ -18,7 +18,7 @@ use Rattle.numbers.specs.Limits.{list_limit}
 use Rattle.numbers.specs.Ranges.{is_timebase, is_bytes}
 use Rattle.budget.specs.declared.BudgetAnswer.{BudgetAnswer}
 use Rattle.budget.specs.Budgets.{unspent, new_budget}
-use Rattle.tables.specs.Tables.{CycleTable}
+use Rattle.tables.specs.declared.CycleTable.{CycleTable}
 use Rattle.state.specs.declared.TrackAnswer.{TrackAnswer}
 use Rattle.state.specs.Track.{new_track, no_cycles}
 use Rattle.state.specs.Calls.{new_of, answered}

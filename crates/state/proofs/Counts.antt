@@ -4,10 +4,10 @@ use mathlib.Core.Bool.{true}
 use Prim.Native.Nat.{◌≤◌}
 use Rattle.numbers.specs.Limits.{places}
 use Rattle.tables.specs.Sixteen.{ok_sixteen}
-use Rattle.tables.specs.Tables.{NoteTable}
-use Rattle.tables.specs.Tables.{WaveTable}
-use Rattle.tables.specs.Tables.{SineTable}
-use Rattle.tables.specs.Tables.{CycleTable}
+use Rattle.tables.specs.declared.NoteTable.{NoteTable}
+use Rattle.tables.specs.declared.WaveTable.{WaveTable}
+use Rattle.tables.specs.declared.SineTable.{SineTable}
+use Rattle.tables.specs.declared.CycleTable.{CycleTable}
 use Rattle.cycles.specs.Rules.{ok_cycle}
 use Rattle.tables.specs.Reservations.{ok_values, ok_wave, ok_sine}
 use Rattle.tables.specs.Tables.{ok_notes, ok_waves, ok_sines, ok_cycles}

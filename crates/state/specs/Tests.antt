@@ -8,9 +8,9 @@ use Rattle.params.specs.Param.{is_flag, ok_param}
 use Rattle.layers.specs.Layers.{ok_layers}
 use Rattle.values.specs.declared.WriteOption.{WriteOption}
 use Rattle.values.specs.Options.{ok_option}
-use Rattle.tables.specs.Tables.{NoteTable}
-use Rattle.tables.specs.Tables.{WaveTable}
-use Rattle.tables.specs.Tables.{SineTable}
+use Rattle.tables.specs.declared.NoteTable.{NoteTable}
+use Rattle.tables.specs.declared.WaveTable.{WaveTable}
+use Rattle.tables.specs.declared.SineTable.{SineTable}
 use Rattle.tables.specs.Tables.{ok_notes, ok_waves, ok_sines, ok_cycles, lone}
 use Rattle.state.specs.declared.Track.{Track}
 use Rattle.cycles.specs.declared.Cycle.{Cycle}

@@ -8,10 +8,10 @@ use Rattle.layers.specs.Layers.{one_layer}
 use Rattle.values.specs.declared.WriteOption.{WriteOption}
 use Rattle.values.specs.Options.{new_option}
 use Rattle.cycles.specs.declared.Cycle.{Cycle}
-use Rattle.tables.specs.Tables.{NoteTable}
-use Rattle.tables.specs.Tables.{WaveTable}
-use Rattle.tables.specs.Tables.{SineTable}
-use Rattle.tables.specs.Tables.{CycleTable}
+use Rattle.tables.specs.declared.NoteTable.{NoteTable}
+use Rattle.tables.specs.declared.WaveTable.{WaveTable}
+use Rattle.tables.specs.declared.SineTable.{SineTable}
+use Rattle.tables.specs.declared.CycleTable.{CycleTable}
 use Rattle.cycles.specs.Rules.{no_cycle}
 use Rattle.tables.specs.Tables.{no_note, no_wave, no_sine}
 use Rattle.state.specs.declared.Track.{Track}

@@ -23,7 +23,11 @@ use Rattle.tables.specs.declared.OnNoteValues.{OnNoteValues}
 use Rattle.tables.specs.declared.OnNoteWave.{OnNoteWave}
 use Rattle.tables.specs.declared.OnNoteSine.{OnNoteSine}
 use Rattle.tables.specs.Sixteen.{keyed, ok_sixteen}
-use Rattle.tables.specs.Tables.{NoteTable, WaveTable, SineTable, CycleTable, no_note, no_wave, no_sine, note_keys, wave_keys, sine_keys, cycle_keys, notes_left, waves_left, sines_left, cycles_left, notes_without, waves_without, sines_without, cycles_without, notes_with, waves_with, sines_with, cycles_with, ok_cycles, lone}
+use Rattle.tables.specs.declared.NoteTable.{NoteTable}
+use Rattle.tables.specs.declared.WaveTable.{WaveTable}
+use Rattle.tables.specs.declared.SineTable.{SineTable}
+use Rattle.tables.specs.declared.CycleTable.{CycleTable}
+use Rattle.tables.specs.Tables.{no_note, no_wave, no_sine, note_keys, wave_keys, sine_keys, cycle_keys, notes_left, waves_left, sines_left, cycles_left, notes_without, waves_without, sines_without, cycles_without, notes_with, waves_with, sines_with, cycles_with, ok_cycles, lone}
 
 -- ---- the four tables
 

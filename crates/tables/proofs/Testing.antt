@@ -11,12 +11,11 @@ use lib.ListN.{take}
 use Rattle.laws.specs.Lists.{all, counted}
 use Rattle.laws.proofs.Ranges.{left}
 use Rattle.numbers.specs.Limits.{places}
-use Rattle.tables.specs.declared.Table.{Table}
-use Rattle.tables.specs.Sixteen.{used, ok_sixteen}
+use Rattle.tables.specs.Sixteen.{ok_sixteen}
 
-pub well-is : {A : Type 0} (p : A → Bool) (t : Table A) → t.count ≤ places → all p (used t) ≡ ok_sixteen p t
+pub well-is : {A : Type 0} (p : A → Bool) (n : ℕ) (l : List A) → n ≤ places → all p (take n l) ≡ ok_sixteen p n l
 unfolding ok_sixteen counted
-well-is p t h = sym (ap (λ b. b && all p (used t)) (le-leb t.count places h))
+well-is p n l h = sym (ap (λ b. b && all p (take n l)) (le-leb n places h))
 
 pub counted-few : {A : Type 0} (n m : ℕ) (p : A → Bool) (l : List A) → counted n m p l ≡ true → n ≤ m
 unfolding counted

@@ -1,5 +1,6 @@
 -- 01, "Numbers a caller may hand in": the four tables of sixteen, and the keys of all their targets.
-use Rattle.std.specs.Prelude.{Bool, cond, List, ◌++◌, ℕ, ◌+◌, ◌*◌, ℤ, pos, length, take, drop}
+use Rattle.std.specs.Prelude.{Bool, cond, List, [], ◌∷◌, ◌++◌, ℕ, ◌+◌, ◌*◌, ℤ, pos, length, take, drop}
+use Rattle.laws.specs.Lists.{put_first}
 use Rattle.laws.specs.Keys.{distinct}
 use Rattle.numbers.specs.Limits.{places}
 use Rattle.numbers.specs.Ranges.{is_target}
@@ -11,22 +12,13 @@ use Rattle.tables.specs.declared.OnNoteValues.{OnNoteValues}
 use Rattle.tables.specs.declared.OnNoteWave.{OnNoteWave}
 use Rattle.tables.specs.declared.OnNoteSine.{OnNoteSine}
 use Rattle.tables.specs.declared.SineAnswer.{SineAnswer}
-use Rattle.tables.specs.declared.Table.{Table}
+use Rattle.tables.specs.declared.NoteTable.{NoteTable}
+use Rattle.tables.specs.declared.WaveTable.{WaveTable}
+use Rattle.tables.specs.declared.SineTable.{SineTable}
+use Rattle.tables.specs.declared.CycleTable.{CycleTable}
 use Rattle.tables.specs.declared.Keys.{Keys}
 use Rattle.tables.specs.Reservations.{ok_values, ok_wave, ok_sine}
-use Rattle.tables.specs.Sixteen.{keyed, left, taken_out, put_in, ok_sixteen, keys_of}
-
-abbrev pub NoteTable : Type 0
-NoteTable = Table OnNoteValues
-
-abbrev pub WaveTable : Type 0
-WaveTable = Table OnNoteWave
-
-abbrev pub SineTable : Type 0
-SineTable = Table OnNoteSine
-
-abbrev pub CycleTable : Type 0
-CycleTable = Table Cycle
+use Rattle.tables.specs.Sixteen.{keyed, left, ok_sixteen, keys_of}
 
 -- ---- unused places
 abbrev pub no_note : OnNoteValues
@@ -56,57 +48,57 @@ abbrev pub note_at : ℕ → OnNoteValues → Bool
 note_at = keyed note_key
 
 abbrev pub notes_left : NoteTable → ℕ → List OnNoteValues
-notes_left = left note_key
+notes_left t k = left note_key t.count t.items k
 
 abbrev pub notes_without : NoteTable → ℕ → NoteTable
-notes_without = taken_out no_note note_key
+notes_without t k = record { count = length (notes_left t k); items = put_first no_note t.count (notes_left t k) t.items }
 
 abbrev pub notes_with : NoteTable → OnNoteValues → NoteTable
-notes_with = put_in no_note
+notes_with t e = record { count = t.count + 1; items = put_first no_note t.count (take t.count t.items ++ (e ∷ [])) t.items }
 
 abbrev pub ok_notes : NoteTable → Bool
-ok_notes = ok_sixteen ok_values
+ok_notes t = ok_sixteen ok_values t.count t.items
 
 abbrev pub note_keys : NoteTable → List ℕ
-note_keys = keys_of note_key
+note_keys t = keys_of note_key t.count t.items
 
 -- ---- waves for notes
 abbrev pub wave_at : ℕ → OnNoteWave → Bool
 wave_at = keyed wave_key
 
 abbrev pub waves_left : WaveTable → ℕ → List OnNoteWave
-waves_left = left wave_key
+waves_left t k = left wave_key t.count t.items k
 
 abbrev pub waves_without : WaveTable → ℕ → WaveTable
-waves_without = taken_out no_wave wave_key
+waves_without t k = record { count = length (waves_left t k); items = put_first no_wave t.count (waves_left t k) t.items }
 
 abbrev pub waves_with : WaveTable → OnNoteWave → WaveTable
-waves_with = put_in no_wave
+waves_with t e = record { count = t.count + 1; items = put_first no_wave t.count (take t.count t.items ++ (e ∷ [])) t.items }
 
 abbrev pub ok_waves : WaveTable → Bool
-ok_waves = ok_sixteen ok_wave
+ok_waves t = ok_sixteen ok_wave t.count t.items
 
 abbrev pub wave_keys : WaveTable → List ℕ
-wave_keys = keys_of wave_key
+wave_keys t = keys_of wave_key t.count t.items
 
 -- ---- sines for notes
 abbrev pub sine_at : ℕ → OnNoteSine → Bool
 sine_at = keyed sine_key
 
 abbrev pub sines_left : SineTable → ℕ → List OnNoteSine
-sines_left = left sine_key
+sines_left t k = left sine_key t.count t.items k
 
 abbrev pub sines_without : SineTable → ℕ → SineTable
-sines_without = taken_out no_sine sine_key
+sines_without t k = record { count = length (sines_left t k); items = put_first no_sine t.count (sines_left t k) t.items }
 
 abbrev pub sines_with : SineTable → OnNoteSine → SineTable
-sines_with = put_in no_sine
+sines_with t e = record { count = t.count + 1; items = put_first no_sine t.count (take t.count t.items ++ (e ∷ [])) t.items }
 
 abbrev pub ok_sines : SineTable → Bool
-ok_sines = ok_sixteen ok_sine
+ok_sines t = ok_sixteen ok_sine t.count t.items
 
 abbrev pub sine_keys : SineTable → List ℕ
-sine_keys = keys_of sine_key
+sine_keys t = keys_of sine_key t.count t.items
 
 -- a sine of its own; 2 and then 4 give a sine of zeros
 abbrev pub sine_of : ℤ → ℕ → ℤ → ℤ → ℤ → ℤ → OnNoteSine
@@ -123,19 +115,19 @@ abbrev pub cycle_at : ℕ → Cycle → Bool
 cycle_at = keyed cycle_key
 
 abbrev pub cycles_left : CycleTable → ℕ → List Cycle
-cycles_left = left cycle_key
+cycles_left t k = left cycle_key t.count t.items k
 
 abbrev pub cycles_without : CycleTable → ℕ → CycleTable
-cycles_without = taken_out no_cycle cycle_key
+cycles_without t k = record { count = length (cycles_left t k); items = put_first no_cycle t.count (cycles_left t k) t.items }
 
 abbrev pub cycles_with : CycleTable → Cycle → CycleTable
-cycles_with = put_in no_cycle
+cycles_with t e = record { count = t.count + 1; items = put_first no_cycle t.count (take t.count t.items ++ (e ∷ [])) t.items }
 
 abbrev pub ok_cycles : CycleTable → Bool
-ok_cycles = ok_sixteen ok_cycle
+ok_cycles t = ok_sixteen ok_cycle t.count t.items
 
 abbrev pub cycle_keys : CycleTable → List ℕ
-cycle_keys = keys_of cycle_key
+cycle_keys t = keys_of cycle_key t.count t.items
 
 -- ---- all four
 -- how many keys there may be: four tables of sixteen

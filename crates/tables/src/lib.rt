@@ -3,20 +3,21 @@
 // bends being one (`cycles::key_of`).
 #![tactic(auto)]
 
-ghost use Rattle.std.specs.Prelude.{◌≡◌, Bool, true, [], ◌++◌, ℕ, ◌+◌, ◌≤◌, ◌<◌, length};
-ghost use Rattle.laws.specs.Lists.{all};
+ghost use Rattle.std.specs.Prelude.{◌≡◌, Bool, true, [], ◌∷◌, ◌++◌, take, ℕ, ◌+◌, ◌≤◌, ◌<◌, length};
+ghost use Rattle.laws.specs.Lists.{all, put_first};
 ghost use Rattle.laws.specs.Keys.{distinct};
 ghost use Rattle.numbers.specs.Limits.{places, list_limit};
 ghost use Rattle.counted.specs.Numbers.{shown};
 ghost use Rattle.counted.specs.Curves.{triples};
 ghost use Rattle.cycles.specs.Rules.{no_cycle, ok_cycle};
 ghost use Rattle.tables.specs.Reservations.{forward, ok_values, ok_wave, ok_sine};
-ghost use Rattle.tables.specs.Sixteen.{taken_out, put_in, ok_sixteen, keys_of};
-ghost use Rattle.tables.specs.Tables.{no_note, no_wave, no_sine, note_key, wave_key, sine_key, cycle_key, new_sine, keys_shown, key_limit, lone};
+ghost use Rattle.tables.specs.Sixteen.{left, ok_sixteen, keys_of};
+ghost use Rattle.tables.specs.Tables.{no_note, no_wave, no_sine, note_key, wave_key, sine_key, cycle_key, new_sine, ok_notes, notes_without, notes_with, ok_waves, waves_without, waves_with, ok_sines, sines_without, sines_with, ok_cycles, cycles_without, cycles_with, keys_shown, key_limit, lone};
 ghost use Rattle.tables.specs.Stored.{ok_stored};
 
 use counted::Numbers;
 use cycles::{Cycle, PLACES, key_of};
+use numbers::Refusal;
 
 // How many reservations there may be in all.
 const KEYS: usize = PLACES * 4;
@@ -236,7 +237,7 @@ impl OnNoteSine {
         let none = OnNoteSine::blank();
         if !numbers::is_target(target) {
             return SineAnswer {
-                code: 2,
+                code: Refusal::NoTarget.number(),
                 sine: none,
             };
         }
@@ -250,7 +251,7 @@ impl OnNoteSine {
         };
         if !sine_ok(sine) {
             return SineAnswer {
-                code: 4,
+                code: Refusal::OutOfRange.number(),
                 sine: none,
             };
         }
@@ -258,71 +259,196 @@ impl OnNoteSine {
     }
 }
 
-// A table of sixteen.
-#[repr(C)]
-#[derive(Clone, Copy)]
-pub struct Table<T> {
-    pub count: usize,
-    pub items: [T; PLACES], // an array with its count: C lends it within a track, and nothing here takes memory
-}
+// The four tables are records of their own, since no exported function of C may name a generic one; what is done to them is done
+// by the functions below, over whatever stands in them.
 
 // A table of lists for notes.
-pub type NoteTable = Table<OnNoteValues>;
+#[repr(C)]
+#[derive(Clone, Copy)]
+pub struct NoteTable {
+    pub count: usize,
+    pub items: [OnNoteValues; PLACES], // an array with its count: C lends it within a track, and nothing here takes memory
+}
 
 // A table of waves for notes.
-pub type WaveTable = Table<OnNoteWave>;
+#[repr(C)]
+#[derive(Clone, Copy)]
+pub struct WaveTable {
+    pub count: usize,
+    pub items: [OnNoteWave; PLACES], // an array with its count: C lends it within a track, and nothing here takes memory
+}
 
 // A table of sines for notes.
-pub type SineTable = Table<OnNoteSine>;
+#[repr(C)]
+#[derive(Clone, Copy)]
+pub struct SineTable {
+    pub count: usize,
+    pub items: [OnNoteSine; PLACES], // an array with its count: C lends it within a track, and nothing here takes memory
+}
 
 // A table of cycles.
-pub type CycleTable = Table<Cycle>;
+#[repr(C)]
+#[derive(Clone, Copy)]
+pub struct CycleTable {
+    pub count: usize,
+    pub items: [Cycle; PLACES], // an array with its count: C lends it within a track, and nothing here takes memory
+}
 
-impl<T: Reservation> Table<T> {
-    // Whether at most sixteen count, each of which may be stored.
-    pub fn is_ok(&self) -> bool
-        ensures value { result ≡ ok_sixteen T.ok self.now }
-        ensures few { result ≡ true → self.now.count ≤ places }
-    {
-        if PLACES < self.count {
+// Whether at most sixteen count, each of which may be stored.
+fn are_ok<T: Reservation>(count: usize, items: &[T; PLACES]) -> bool
+    ensures value { result ≡ ok_sixteen T.ok count items.now }
+    ensures few { result ≡ true → count ≤ places }
+{
+    if PLACES < count {
+        return false;
+    }
+    for e in &items[..count] {
+        if !e.is_ok() {
             return false;
         }
-        for e in &self.items[..self.count] {
-            if !e.is_ok() {
-                return false;
-            }
+    }
+    true
+}
+
+// Takes the target of key `k` out, and answers how many are left: they keep their order and close up, the places behind them are zeroed.
+fn take_out<T: Reservation>(count: usize, items: &mut [T; PLACES], k: usize) -> usize
+    requires { count ≤ places }
+    ensures left { result ≡ length (left T.key count items.old k) }
+    ensures items { items.new ≡ put_first T.blank count (left T.key count items.old k) items.old }
+{
+    let mut n: usize = 0;
+    for i in 0..count {
+        let e = items[i];
+        if e.key() == k {
+            continue;
         }
-        true
+        items[n] = e;
+        n += 1;
+    }
+    for j in n..count {
+        items[j] = T::blank();
+    }
+    n
+}
+
+// Puts one more behind the `count` that are there, where there is room, and answers how many there are.
+fn put_in<T: Reservation>(count: usize, items: &mut [T; PLACES], e: T) -> usize
+    requires { count < places }
+    ensures more { result ≡ count + 1 }
+    ensures items { items.new ≡ put_first T.blank count (take count items.old ++ (e ∷ [])) items.old }
+{
+    items[count] = e;
+    count + 1
+}
+
+impl NoteTable {
+    // Whether at most sixteen count, each of which may be stored.
+    pub fn is_ok(&self) -> bool
+        ensures value { result ≡ ok_notes self.now }
+        ensures few { result ≡ true → self.now.count ≤ places }
+    {
+        are_ok(self.count, &self.items)
     }
 
-    // The table without the target of key `k`: those that stay keep their order and close up, the places left are zeroed.
-    pub fn without(mut self, k: usize) -> Table<T>
+    // The table without the target of key `k`.
+    pub fn without(mut self, k: usize) -> NoteTable
         requires { self.count ≤ places }
-        ensures { result ≡ taken_out T.blank T.key self k }
+        ensures { result ≡ notes_without self k }
     {
-        let mut n: usize = 0;
-        for i in 0..self.count {
-            let e = self.items[i];
-            if e.key() == k {
-                continue;
-            }
-            self.items[n] = e;
-            n += 1;
-        }
-        for j in n..self.count {
-            self.items[j] = T::blank();
-        }
-        self.count = n;
+        self.count = take_out(self.count, &mut self.items, k);
         self
     }
 
     // The table with one more at its end, where there is room.
-    pub fn with(mut self, e: T) -> Table<T>
+    pub fn with(mut self, e: OnNoteValues) -> NoteTable
         requires { self.count < places }
-        ensures { result ≡ put_in T.blank self e }
+        ensures { result ≡ notes_with self e }
     {
-        self.items[self.count] = e;
-        self.count += 1;
+        self.count = put_in(self.count, &mut self.items, e);
+        self
+    }
+}
+
+impl WaveTable {
+    // Whether at most sixteen count, each of which may be stored.
+    pub fn is_ok(&self) -> bool
+        ensures value { result ≡ ok_waves self.now }
+        ensures few { result ≡ true → self.now.count ≤ places }
+    {
+        are_ok(self.count, &self.items)
+    }
+
+    // The table without the target of key `k`.
+    pub fn without(mut self, k: usize) -> WaveTable
+        requires { self.count ≤ places }
+        ensures { result ≡ waves_without self k }
+    {
+        self.count = take_out(self.count, &mut self.items, k);
+        self
+    }
+
+    // The table with one more at its end, where there is room.
+    pub fn with(mut self, e: OnNoteWave) -> WaveTable
+        requires { self.count < places }
+        ensures { result ≡ waves_with self e }
+    {
+        self.count = put_in(self.count, &mut self.items, e);
+        self
+    }
+}
+
+impl SineTable {
+    // Whether at most sixteen count, each of which may be stored.
+    pub fn is_ok(&self) -> bool
+        ensures value { result ≡ ok_sines self.now }
+        ensures few { result ≡ true → self.now.count ≤ places }
+    {
+        are_ok(self.count, &self.items)
+    }
+
+    // The table without the target of key `k`.
+    pub fn without(mut self, k: usize) -> SineTable
+        requires { self.count ≤ places }
+        ensures { result ≡ sines_without self k }
+    {
+        self.count = take_out(self.count, &mut self.items, k);
+        self
+    }
+
+    // The table with one more at its end, where there is room.
+    pub fn with(mut self, e: OnNoteSine) -> SineTable
+        requires { self.count < places }
+        ensures { result ≡ sines_with self e }
+    {
+        self.count = put_in(self.count, &mut self.items, e);
+        self
+    }
+}
+
+impl CycleTable {
+    // Whether at most sixteen count, each of which may be stored.
+    pub fn is_ok(&self) -> bool
+        ensures value { result ≡ ok_cycles self.now }
+        ensures few { result ≡ true → self.now.count ≤ places }
+    {
+        are_ok(self.count, &self.items)
+    }
+
+    // The table without the target of key `k`.
+    pub fn without(mut self, k: usize) -> CycleTable
+        requires { self.count ≤ places }
+        ensures { result ≡ cycles_without self k }
+    {
+        self.count = take_out(self.count, &mut self.items, k);
+        self
+    }
+
+    // The table with one more at its end, where there is room.
+    pub fn with(mut self, e: Cycle) -> CycleTable
+        requires { self.count < places }
+        ensures { result ≡ cycles_with self e }
+    {
+        self.count = put_in(self.count, &mut self.items, e);
         self
     }
 }
@@ -347,17 +473,17 @@ impl Keys {
     }
 
     // Those of a table behind what is gathered.
-    fn gather<T: Reservation>(&mut self, table: &Table<T>)
-        requires few { table.now.count ≤ places }
-        requires room { self.old.count + table.now.count ≤ key_limit }
-        ensures count { self.new.count ≡ self.old.count + table.now.count }
-        ensures shown { keys_shown self.new ≡ keys_shown self.old ++ keys_of T.key table.now }
+    fn gather<T: Reservation>(&mut self, count: usize, items: &[T; PLACES])
+        requires few { count ≤ places }
+        requires room { self.old.count + count ≤ key_limit }
+        ensures count { self.new.count ≡ self.old.count + count }
+        ensures shown { keys_shown self.new ≡ keys_shown self.old ++ keys_of T.key count items.now }
     {
         let first = self.count;
-        for i in 0..table.count {
-            self.items[first + i] = table.items[i].key();
+        for i in 0..count {
+            self.items[first + i] = items[i].key();
         }
-        self.count = first + table.count;
+        self.count = first + count;
     }
 
     // Whether each stands once.
@@ -382,10 +508,10 @@ pub fn lone_ok(notes: NoteTable, waves: WaveTable, sines: SineTable, cycles: Cyc
     ensures { result ≡ lone notes waves sines cycles }
 {
     let mut keys = Keys::none();
-    keys.gather(&notes);
-    keys.gather(&waves);
-    keys.gather(&sines);
-    keys.gather(&cycles);
+    keys.gather(notes.count, &notes.items);
+    keys.gather(waves.count, &waves.items);
+    keys.gather(sines.count, &sines.items);
+    keys.gather(cycles.count, &cycles.items);
     keys.alone()
 }
 
@@ -398,8 +524,8 @@ pub fn stored_ok(notes: NoteTable, waves: WaveTable, sines: SineTable) -> bool
         return false;
     }
     let mut keys = Keys::none();
-    keys.gather(&notes);
-    keys.gather(&waves);
-    keys.gather(&sines);
+    keys.gather(notes.count, &notes.items);
+    keys.gather(waves.count, &waves.items);
+    keys.gather(sines.count, &sines.items);
     keys.alone()
 }

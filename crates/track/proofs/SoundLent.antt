@@ -42,7 +42,7 @@ use Rattle.cycles.specs.declared.Cycle.{Cycle}
 use Rattle.cycles.specs.Due.{key}
 use Rattle.cycles.specs.Rules.{no_cycle}
 use Rattle.tables.specs.declared.OnNoteSine.{OnNoteSine}
-use Rattle.tables.specs.Tables.{NoteTable}
+use Rattle.tables.specs.declared.NoteTable.{NoteTable}
 use Rattle.tables.specs.Reservations.{ok_values, ok_wave, ok_sine}
 use Rattle.tables.specs.Tables.{cycle_at, cycles_left, cycles_without, cycles_with}
 use Rattle.writing.specs.declared.Outcome.{Outcome}

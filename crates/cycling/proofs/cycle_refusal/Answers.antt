@@ -19,7 +19,7 @@ use Rattle.budget.specs.Budgets.{ok_budget, room}
 use Rattle.eventlist.specs.Rows.{record_width}
 use Rattle.cycles.specs.declared.Cycle.{Cycle}
 use Rattle.cycles.specs.Due.{owed}
-use Rattle.tables.specs.Tables.{CycleTable}
+use Rattle.tables.specs.declared.CycleTable.{CycleTable}
 use Rattle.tables.specs.Tables.{ok_cycles, lone}
 use Rattle.state.specs.declared.Track.{Track}
 use Rattle.state.specs.Tests.{ok_track, ok_lent}

@@ -6,7 +6,7 @@ use lib.IntN.{ℤ}
 use mir.Facts.{to_z-of_z}
 use Rattle.cycles.specs.Due.{key}
 use Rattle.values.specs.declared.WriteOption.{WriteOption}
-use Rattle.tables.specs.Tables.{NoteTable}
+use Rattle.tables.specs.declared.NoteTable.{NoteTable}
 use Rattle.state.specs.declared.TrackAnswer.{TrackAnswer}
 use Rattle.state.specs.Track.{with_tables}
 use Rattle.state.specs.Calls.{answer}

@@ -10,7 +10,7 @@ use lib.Seq.{length-take-le}
 use Rattle.laws.proofs.Reading.{length-told}
 use Rattle.budget.specs.declared.Budget.{Budget}
 use Rattle.values.specs.declared.WriteOption.{WriteOption}
-use Rattle.tables.specs.Tables.{NoteTable}
+use Rattle.tables.specs.declared.NoteTable.{NoteTable}
 use Rattle.state.proofs.Counts.{few-notes}
 use Rattle.noting.specs.declared.Onset.{Onset}
 use Rattle.noting.specs.declared.Played.{Played}

@@ -23,7 +23,7 @@ use Rattle.events.specs.Events.{zero_event}
 use Rattle.eventlist.specs.Rows.{rows_of, events_of}
 use Rattle.eventlist.proofs.EventRows.{length-rows_of, determined}
 use Rattle.eventlist.proofs.Sound.{list-whole, list-within}
-use Rattle.tables.specs.Tables.{NoteTable}
+use Rattle.tables.specs.declared.NoteTable.{NoteTable}
 use Rattle.state.specs.declared.Track.{Track}
 use Rattle.state.specs.Tests.{ok_track}
 use Rattle.state.proofs.Parts.{track-play}

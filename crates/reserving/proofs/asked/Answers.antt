@@ -4,7 +4,7 @@ use mathlib.Core.Bool.{true, ◌&&◌}
 use Rattle.laws.proofs.Tests.{is_at, both}
 use Rattle.numbers.specs.Ranges.{is_target}
 use Rattle.numbers.specs.Refusals.{told}
-use Rattle.tables.specs.Tables.{CycleTable}
+use Rattle.tables.specs.declared.CycleTable.{CycleTable}
 use Rattle.tables.specs.Tables.{ok_cycles, lone}
 use Rattle.state.proofs.Told.{told-asked, ask-ok, ask-err}
 use Rattle.state.proofs.Lent.{untracked, tracked, behind}

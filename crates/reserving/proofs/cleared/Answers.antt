@@ -1,23 +1,22 @@
 -- `cleared`: each table as its own call leaves it.
-use native.Mathlib.Omega.{arith}
 use mathlib.Core.Path.{ap, ◌∙◌}
-use Rattle.tables.specs.Tables.{CycleTable}
+use Rattle.tables.specs.declared.CycleTable.{CycleTable}
 use Rattle.tables.specs.Tables.{cycles_without}
 use Rattle.state.proofs.Lent.{notes-few, waves-few, sines-few, cycles-few}
 use Rattle.reserving.specs.Clearing.{cleared}
 use Rattle.reserving.proofs.cleared.Goals as goal
 
 pub without-requires : goal.without-requires
-without-requires c = (omega arith, notes-few _ _ c.requires)
+without-requires c = notes-few _ _ c.requires
 
 pub without-requires-2 : goal.without-requires-2
-without-requires-2 c = (omega arith, waves-few _ _ c.requires)
+without-requires-2 c = waves-few _ _ c.requires
 
 pub without-requires-3 : goal.without-requires-3
-without-requires-3 c = (omega arith, sines-few _ _ c.requires)
+without-requires-3 c = sines-few _ _ c.requires
 
 pub without-requires-4 : goal.without-requires-4
-without-requires-4 c = (omega arith, rw c.cycles_of-own.ensures (cycles-few _ _ c.requires))
+without-requires-4 c = rw c.cycles_of-own.ensures (cycles-few _ _ c.requires)
 
 pub returns : goal.returns
 unfolding cleared

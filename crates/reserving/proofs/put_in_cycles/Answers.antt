@@ -1,5 +1,4 @@
 -- `put_in_cycles`: the same with a cycle, which stands in the lent table, or with none.
-use native.Mathlib.Omega.{arith}
 use mathlib.Core.Path.{◌≡◌, refl, ap, ◌∙◌}
 use mathlib.Core.Bool.{Bool, true, false, cond, not, ◌&&◌, ◌||◌}
 use mathlib.Core.List.{List}
@@ -9,7 +8,7 @@ use lib.Dec.{leb, ltb}
 use Rattle.laws.proofs.Ranges.{left, right}
 use Rattle.numbers.specs.Limits.{places}
 use Rattle.cycles.specs.declared.Cycle.{Cycle}
-use Rattle.tables.specs.Tables.{CycleTable}
+use Rattle.tables.specs.declared.CycleTable.{CycleTable}
 use Rattle.tables.specs.Tables.{notes_without, waves_without, sines_without, cycles_without, cycles_with}
 use Rattle.state.specs.declared.Track.{Track}
 use Rattle.state.specs.Track.{cycles_of, with_tables}
@@ -47,7 +46,7 @@ freed : (c : After-without-free) → c.without-free.result ≡ rest c.args.track
 freed c = c.without-free.ensures ∙ ap (λ (t : CycleTable). cycles_without t c.args.k) c.cycles_of-own.ensures
 
 pub without-free-requires : goal.without-free-requires
-without-free-requires c = (omega arith, rw c.cycles_of-own.ensures (cycles-few _ _ c.requires))
+without-free-requires c = rw c.cycles_of-own.ensures (cycles-few _ _ c.requires)
 
 pub returns-then-gone-free : goal.returns-then-gone-free
 unfolding cleared
@@ -57,13 +56,13 @@ returns-then-gone-free c =
     (full s.gone (rest s.track s.cycles s.k s.e).count (rw (freed (goal.at.returns-then-gone-free c).After-without-free) at c.if-gone-free.true)))
 
 pub without-requires : goal.without-requires
-without-requires c = (omega arith, notes-few _ _ c.requires)
+without-requires c = notes-few _ _ c.requires
 
 pub without-requires-2 : goal.without-requires-2
-without-requires-2 c = (omega arith, waves-few _ _ c.requires)
+without-requires-2 c = waves-few _ _ c.requires
 
 pub without-requires-3 : goal.without-requires-3
-without-requires-3 c = (omega arith, sines-few _ _ c.requires)
+without-requires-3 c = sines-few _ _ c.requires
 
 pub returns : goal.returns
 unfolding cleared

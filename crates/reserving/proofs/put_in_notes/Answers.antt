@@ -1,9 +1,8 @@
 -- `put_in_notes`: the old entries go, and then a place is asked for, with a list for notes.
-use native.Mathlib.Omega.{arith}
 use mathlib.Core.Path.{◌≡◌, refl, ap, ◌∙◌}
 use borrow.Author.Tests.{le-ltb, lt-ltb}
-use Rattle.tables.specs.Tables.{NoteTable}
-use Rattle.tables.specs.Tables.{CycleTable}
+use Rattle.tables.specs.declared.NoteTable.{NoteTable}
+use Rattle.tables.specs.declared.CycleTable.{CycleTable}
 use Rattle.tables.specs.Tables.{notes_without, notes_with, cycles_without}
 use Rattle.state.proofs.Lent.{notes-few, waves-few, sines-few, cycles-few}
 use Rattle.reserving.specs.Clearing.{cleared}
@@ -17,7 +16,7 @@ left-count : (c : After-without-notes) → c.without-notes.result.count ≡ (not
 left-count c = ap (λ (t : NoteTable). t.count) c.without-notes.ensures
 
 pub without-notes-requires : goal.without-notes-requires
-without-notes-requires c = (omega arith, notes-few _ _ c.requires)
+without-notes-requires c = notes-few _ _ c.requires
 
 pub returns-then-notes-ge-PLACES : goal.returns-then-notes-ge-PLACES
 unfolding cleared
@@ -27,13 +26,13 @@ returns-then-notes-ge-PLACES c =
     (le-ltb _ _ (rw (left-count (goal.at.returns-then-notes-ge-PLACES c).After-without-notes) at c.if-notes-ge-PLACES.true)))
 
 pub without-requires : goal.without-requires
-without-requires c = (omega arith, waves-few _ _ c.requires)
+without-requires c = waves-few _ _ c.requires
 
 pub without-requires-2 : goal.without-requires-2
-without-requires-2 c = (omega arith, sines-few _ _ c.requires)
+without-requires-2 c = sines-few _ _ c.requires
 
 pub without-requires-3 : goal.without-requires-3
-without-requires-3 c = (omega arith, rw c.cycles_of-own.ensures (cycles-few _ _ c.requires))
+without-requires-3 c = rw c.cycles_of-own.ensures (cycles-few _ _ c.requires)
 
 pub returns : goal.returns
 unfolding cleared

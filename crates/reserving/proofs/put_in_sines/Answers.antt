@@ -1,9 +1,8 @@
 -- `put_in_sines`: the old entries go, and then a place is asked for, with a sine.
-use native.Mathlib.Omega.{arith}
 use mathlib.Core.Path.{◌≡◌, refl, ap, ◌∙◌}
 use borrow.Author.Tests.{le-ltb, lt-ltb}
-use Rattle.tables.specs.Tables.{SineTable}
-use Rattle.tables.specs.Tables.{CycleTable}
+use Rattle.tables.specs.declared.SineTable.{SineTable}
+use Rattle.tables.specs.declared.CycleTable.{CycleTable}
 use Rattle.tables.specs.Tables.{sines_without, sines_with, cycles_without}
 use Rattle.state.proofs.Lent.{notes-few, waves-few, sines-few, cycles-few}
 use Rattle.reserving.specs.Clearing.{cleared}
@@ -17,7 +16,7 @@ left-count : (c : After-without-sines) → c.without-sines.result.count ≡ (sin
 left-count c = ap (λ (t : SineTable). t.count) c.without-sines.ensures
 
 pub without-sines-requires : goal.without-sines-requires
-without-sines-requires c = (omega arith, sines-few _ _ c.requires)
+without-sines-requires c = sines-few _ _ c.requires
 
 pub returns-then-sines-ge-PLACES : goal.returns-then-sines-ge-PLACES
 unfolding cleared
@@ -27,13 +26,13 @@ returns-then-sines-ge-PLACES c =
     (le-ltb _ _ (rw (left-count (goal.at.returns-then-sines-ge-PLACES c).After-without-sines) at c.if-sines-ge-PLACES.true)))
 
 pub without-requires : goal.without-requires
-without-requires c = (omega arith, notes-few _ _ c.requires)
+without-requires c = notes-few _ _ c.requires
 
 pub without-requires-2 : goal.without-requires-2
-without-requires-2 c = (omega arith, waves-few _ _ c.requires)
+without-requires-2 c = waves-few _ _ c.requires
 
 pub without-requires-3 : goal.without-requires-3
-without-requires-3 c = (omega arith, rw c.cycles_of-own.ensures (cycles-few _ _ c.requires))
+without-requires-3 c = rw c.cycles_of-own.ensures (cycles-few _ _ c.requires)
 
 pub returns : goal.returns
 unfolding cleared

@@ -1,10 +1,9 @@
 -- `remove_cc_on_note`: the number that was asked chooses.
-use native.Mathlib.Omega.{arith}
 use mathlib.Core.Path.{◌≡◌, sym, ap, ap₂, ◌∙◌}
 use mir.Syntax.{w32}
 use mir.Val.{to_z, of_z}
 use Rattle.cycles.specs.Due.{key}
-use Rattle.tables.specs.Tables.{NoteTable}
+use Rattle.tables.specs.declared.NoteTable.{NoteTable}
 use Rattle.tables.specs.Tables.{notes_without}
 use Rattle.state.specs.Track.{with_tables}
 use Rattle.state.specs.Calls.{answer}
@@ -33,7 +32,7 @@ returns-in-Err c = rw c.number.ensures (refused-by (sym (ap told c.in-Err.is) �
 
 pub without-track-requires : goal.without-track-requires
 without-track-requires c =
-    (omega arith, notes-few _ (usable _ _ (sym (code_is (goal.at.without-track-requires c).After-ask_target) ∙ (ap told c.in_default.is))))
+    notes-few _ (usable _ _ (sym (code_is (goal.at.without-track-requires c).After-ask_target) ∙ (ap told c.in_default.is)))
 
 pub returns : goal.returns
 unfolding remove_cc_on_note

@@ -1,11 +1,10 @@
 -- `remove_cc_on_note_wave`: the number that was asked chooses.
-use native.Mathlib.Omega.{arith}
 use mathlib.Core.Path.{◌≡◌, sym, ap, ap₂, ◌∙◌}
 use mir.Syntax.{w32}
 use mir.Val.{to_z, of_z}
 use Rattle.cycles.specs.Due.{key}
-use Rattle.tables.specs.Tables.{WaveTable}
-use Rattle.tables.specs.Tables.{SineTable}
+use Rattle.tables.specs.declared.WaveTable.{WaveTable}
+use Rattle.tables.specs.declared.SineTable.{SineTable}
 use Rattle.tables.specs.Tables.{waves_without, sines_without}
 use Rattle.state.specs.Track.{with_tables}
 use Rattle.state.specs.Calls.{answer}
@@ -34,11 +33,11 @@ returns-in-Err c = rw c.number.ensures (refused-by (sym (ap told c.in-Err.is) �
 
 pub without-track-requires : goal.without-track-requires
 without-track-requires c =
-    (omega arith, waves-few _ (usable _ _ (sym (code_is (goal.at.without-track-requires c).After-ask_target) ∙ (ap told c.in_default.is))))
+    waves-few _ (usable _ _ (sym (code_is (goal.at.without-track-requires c).After-ask_target) ∙ (ap told c.in_default.is)))
 
 pub without-track-requires-2 : goal.without-track-requires-2
 without-track-requires-2 c =
-    (omega arith, sines-few _ (usable _ _ (sym (code_is (goal.at.without-track-requires-2 c).After-ask_target) ∙ (ap told c.in_default.is))))
+    sines-few _ (usable _ _ (sym (code_is (goal.at.without-track-requires-2 c).After-ask_target) ∙ (ap told c.in_default.is)))
 
 pub returns : goal.returns
 unfolding remove_cc_on_note_wave

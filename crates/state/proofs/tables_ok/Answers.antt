@@ -4,9 +4,9 @@ use mathlib.Core.Bool.{◌&&◌}
 use mathlib.Core.List.{List, ◌++◌, append-nil}
 use Prim.Native.Nat.{ℕ}
 use Rattle.laws.specs.Keys.{distinct}
-use Rattle.tables.specs.Tables.{NoteTable}
-use Rattle.tables.specs.Tables.{WaveTable}
-use Rattle.tables.specs.Tables.{SineTable}
+use Rattle.tables.specs.declared.NoteTable.{NoteTable}
+use Rattle.tables.specs.declared.WaveTable.{WaveTable}
+use Rattle.tables.specs.declared.SineTable.{SineTable}
 use Rattle.tables.specs.Tables.{ok_notes, ok_waves, ok_sines, note_keys, wave_keys, sine_keys, lone}
 use Rattle.tables.specs.Stored.{ok_stored}
 use Rattle.state.specs.Tests.{ok_tables}

@@ -6,9 +6,8 @@ use Rattle.tables.proofs.Keys.gather.Goals as goal
 pub loop-i-preserved : goal.loop-i-preserved
 loop-i-preserved g c =
     let f = g.T.Reservation.key in
-    let t = c.args.table.now in
     let a = c.args.self.now in (
       c.loop-i.invariant.0,
-      one_further f t.items a.items a.count t.count (search rules) c.loop-i.self.items c.loop-i.i c.key.result c.index-table-i.result c.loop-i.invariant.1
-          (search rules) (search rules) (c.key.ensures),
+      one_further f c.args.items.now a.items a.count c.args.count (search rules) c.loop-i.self.items c.loop-i.i c.key.result c.index-items-i.result c.loop-i.invariant.1
+          (search rules) (search rules) c.key.ensures,
     )

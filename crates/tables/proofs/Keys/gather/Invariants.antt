@@ -6,4 +6,4 @@ use Rattle.tables.proofs.Keys.gather.Given as goal
 abbrev pub invariant-loop-i : goal.invariant-loop-i
 invariant-loop-i g l =
     (l.self.count ≡ l.first)
-    × Gathering g.T.Reservation.key l.table.items l.initial.self.items l.first l.table.count l.self.items l.i
+    × Gathering g.T.Reservation.key l.items l.initial.self.items l.first l.count l.self.items l.i

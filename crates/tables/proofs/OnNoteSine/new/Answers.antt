@@ -19,51 +19,25 @@ made : (t : ℤ) (s : ℕ) (l h n k : ℤ) → is_target t ≡ true → ok_sine 
 unfolding new_sine
 made t s l h n k a e = rw (a, e)
 
--- the sine as it is handed in
-module _ (c : goal.Then-not-is_target) where
-  abbrev sine : OnNoteSine
-  sine = sine_of c.args.target c.args.shape c.args.low c.args.high c.args.length c.args.times
-
-  aimed : c.is_target.result ≡ is_target c.args.target
-  aimed = is_at w32 is_target c.ranges.target.sfits c.is_target.ensures
-
--- the sine as it is handed in
-module _ (c : goal.Then-not-sine_ok) where
-  abbrev sine-at-2 : OnNoteSine
-  sine-at-2 = sine_of c.args.target c.args.shape c.args.low c.args.high c.args.length c.args.times
-
-  aimed-at-2 : c.is_target.result ≡ is_target c.args.target
-  aimed-at-2 = is_at w32 is_target c.ranges.target.sfits c.is_target.ensures
-
--- the sine as it is handed in
-module _ (c : goal.Else-not-sine_ok) where
-  abbrev sine-at-3 : OnNoteSine
-  sine-at-3 = sine_of c.args.target c.args.shape c.args.low c.args.high c.args.length c.args.times
-
-  aimed-at-3 : c.is_target.result ≡ is_target c.args.target
-  aimed-at-3 = is_at w32 is_target c.ranges.target.sfits c.is_target.ensures
-
-tested : (c : goal.Then-not-sine_ok) → c.sine_ok.result ≡ ok_sine (sine-at-2 c)
-tested c =
-    let f = c.ranges in
-    c.sine_ok.ensures ∙ ap ok_sine (same c.args.shape (to_z-of_z f.target) (to_z-of_z f.low) (to_z-of_z f.high) (to_z-of_z f.length) (to_z-of_z f.times))
-
-tested-at-2 : (c : goal.Else-not-sine_ok) → c.sine_ok.result ≡ ok_sine (sine-at-3 c)
-tested-at-2 c =
-    let f = c.ranges in
-    c.sine_ok.ensures ∙ ap ok_sine (same c.args.shape (to_z-of_z f.target) (to_z-of_z f.low) (to_z-of_z f.high) (to_z-of_z f.length) (to_z-of_z f.times))
-
 pub returns-then-not-is_target : goal.returns-then-not-is_target
 unfolding new_sine
-returns-then-not-is_target c = rw (c.blank-none.ensures, sym (aimed c) ∙ c.if-not-is_target.true)
+returns-then-not-is_target c =
+    let aimed = is_at w32 {z = c.args.target} is_target c.ranges.target.sfits c.is_target.ensures in
+    rw (c.number.ensures, c.blank-none.ensures, sym aimed ∙ c.if-not-is_target.true)
 
 pub returns-then-not-sine_ok : goal.returns-then-not-sine_ok
 unfolding new_sine
 returns-then-not-sine_ok c =
-    rw (c.blank-none.ensures, sym (aimed-at-2 c) ∙ c.if-not-is_target.false, sym (tested c) ∙ c.if-not-sine_ok.true)
+    let f = c.ranges in
+    let aimed = is_at w32 {z = c.args.target} is_target f.target.sfits c.is_target.ensures in
+    let tested = c.sine_ok.ensures ∙ ap ok_sine (same c.args.shape (to_z-of_z f.target) (to_z-of_z f.low) (to_z-of_z f.high) (to_z-of_z f.length) (to_z-of_z f.times)) in
+    rw (c.number-then-not-sine_ok.ensures, c.blank-none.ensures, sym aimed ∙ c.if-not-is_target.false, sym tested ∙ c.if-not-sine_ok.true)
 
 pub returns : goal.returns
 returns c =
     let f = c.ranges in
-    ap (λ (x : OnNoteSine). record { code = 0; sine = x }) (same c.args.shape (to_z-of_z f.target) (to_z-of_z f.low) (to_z-of_z f.high) (to_z-of_z f.length) (to_z-of_z f.times))
-    ∙ made c.args.target c.args.shape c.args.low c.args.high c.args.length c.args.times (sym (aimed-at-3 c) ∙ c.if-not-is_target.false) (sym (tested-at-2 c) ∙ c.if-not-sine_ok.false)
+    let a = c.args in
+    let aimed = is_at w32 {z = c.args.target} is_target f.target.sfits c.is_target.ensures in
+    let s = same a.shape (to_z-of_z f.target) (to_z-of_z f.low) (to_z-of_z f.high) (to_z-of_z f.length) (to_z-of_z f.times) in
+    ap (λ (x : OnNoteSine). record { code = 0; sine = x }) s
+    ∙ made a.target a.shape a.low a.high a.length a.times (sym aimed ∙ c.if-not-is_target.false) (sym (c.sine_ok.ensures ∙ ap ok_sine s) ∙ c.if-not-sine_ok.false)
