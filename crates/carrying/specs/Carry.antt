@@ -21,7 +21,7 @@ use Rattle.reserving.specs.Setting.{set_on_cycle}
 use Rattle.cycling.specs.declared.Cycled.{Cycled}
 use Rattle.cycling.specs.Calls.{cycled_of, cycled_list}
 use Rattle.reel.specs.declared.marks.Mark.{Mark}
-use Rattle.reel.specs.declared.marks.Mark.TheVariants.{Track as TK, Budget as MX, Time as TP, Freqs as FQ, Curve as OT, Cycle as CY, Turn as RC, Cut as PF, Unknown}
+use Rattle.reel.specs.declared.marks.Mark.TheVariants.{Track as TK, Budget as MX, Time as TP, Freqs as FQ, Curve as OT, Cycle as CY, Turn as RC, Cut as PF}
 use Rattle.reel.specs.declared.records.Record.{Record}
 use Rattle.carrying.specs.declared.State.{State}
 use Rattle.carrying.specs.declared.Carried.{Carried}
@@ -100,7 +100,7 @@ pub record Left : Type 0 where
 abbrev pub left : Carried → List ℤ → Left
 left d l = record { done = d; events = l }
 
--- the record's call; a record that is read whole has a mark that is known
+-- the record's call
 unfoldable pub carried_as : Mark → State → Record → List ℤ → Left
 carried_as TK s r l = left (make_track s r) l
 carried_as MX s r l = left (make_budget s r) l
@@ -110,7 +110,6 @@ carried_as OT s r l = left (drawn_to s (draw_answer (curve_of s r l))) (draw_lef
 carried_as CY s r l = left (set_cycle s r) l
 carried_as RC s r l = left (cycled_to s (turn_answer s r l)) (turn_list s r l)
 carried_as PF s r l = left (cut_to s (cut_taken 0 l s.count (plain r.x))) (cut_left 0 l s.count (plain r.x))
-carried_as Unknown s r l = left (carried_to 8 s) l
 
 abbrev pub carried : State → Record → List ℤ → Left
 carried s r l = carried_as r.mark s r l

@@ -225,6 +225,5 @@ pub fn carry_out(state: State, r: Record, events: &mut [i64]) -> Carried
         Mark::Cycle => set_cycle(state, r),
         Mark::Turn => turn(state, r, events),
         Mark::Cut => cut(state, r, events),
-        Mark::Unknown => Carried { code: 8, state },
     }
 }

@@ -90,15 +90,17 @@ fn step(run: Run, tape: &[u8], events: &mut [i64]) -> Run
     requires { (run.index ≤ run.at) × (run.at < length tape.now) × (length tape.now ≤ tape_limit) }
     ensures { (result ≡ (step_of tape.now run events.old).run) × (events.new ≡ (step_of tape.now run events.old).events) }
 {
-    let r = record_at(tape, run.at, run.due);
-    if r.code != 0 {
-        return refuse(run, r.code, tape.len());
+    match record_at(tape, run.at, run.due) {
+        Err(refusal) => refuse(run, refusal.number(), tape.len()),
+        Ok(r) => {
+            let k = carry_out(run.state, r, events);
+            if k.code != 0 {
+                refuse(run, k.code, tape.len())
+            } else {
+                pass_on(run, r.next, k.state)
+            }
+        }
     }
-    let k = carry_out(run.state, r, events);
-    if k.code != 0 {
-        return refuse(run, k.code, tape.len());
-    }
-    pass_on(run, r.next, k.state)
 }
 
 // The run at the tape's end: a TK or MX that is missing is missed here.
