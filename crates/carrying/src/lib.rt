@@ -85,16 +85,15 @@ fn both_freqs(track: Track, controllers: i32, bends: i32) -> TrackAnswer
 {
     let first = set_cc_on_time_freq(track, controllers);
     if first.code != 0 {
-        return first;
+        first
+    } else {
+        let second = set_pb_on_time_freq(first.track, bends);
+        if second.code != 0 {
+            TrackAnswer { track, ..second }
+        } else {
+            second
+        }
     }
-    let second = set_pb_on_time_freq(first.track, bends);
-    if second.code != 0 {
-        return TrackAnswer {
-            code: second.code,
-            track: track,
-        };
-    }
-    second
 }
 
 // FQ: both frequencies.
