@@ -9,7 +9,7 @@ use mathlib.Core.List.{List}
 use Prim.Native.Nat.{ℕ, zero, suc, ◌≤◌}
 use native.Mathlib.Omega.{arith}
 use Rattle.std.specs.Prelude.{Result, Ok, Err}
-use lib.Dec.{eqb, ltb}
+use lib.Dec.{ltb}
 use lib.IntN.{ℤ}
 use lib.ListN.{length}
 use Rattle.numbers.specs.Limits.{list_limit}
@@ -25,8 +25,7 @@ use Rattle.lines.specs.Lines.{end_text}
 use Rattle.carrying.specs.declared.State.{State}
 use Rattle.carrying.specs.Carry.{carried}
 use Rattle.spool.specs.declared.Run.{Run}
-use Rattle.spool.specs.Play.{Pass, pass, begun, refused, past, after_record, step_by, play_from_by, ended, play_by, ending_of, printed_by, printed}
-use Rattle.spool.proofs.Steps.{of-both}
+use Rattle.spool.specs.Play.{Pass, pass, begun, refused, past, after_done, after_record, step_by, play_from_by, ended, play_by, ending_of, printed_by, printed}
 use Rattle.spool.proofs.Playing.{none_left}
 
 if-so : (t : Bool) (x y p : Pass) → (t ≡ true → x ≡ y) → cond t x p ≡ cond t y p
@@ -46,12 +45,12 @@ module _ (lo hi : ℕ) (s : List ℕ) where
     unfolding step_by
     after f = go (record_by hi s a.at a.due) refl
       where
+        each : (r : Record) → record_by hi s a.at a.due ≡ Ok r → (e : List ℤ) (d : Result State ℕ) → Same n (after_done s a r e d)
+        each r z e (Ok y) = f r z y e
+        each r z e (Err m) = stopped n (pass (refused a m (length s)) e) (omega arith)
+
         go : (x : Result Record Refusal) → record_by hi s a.at a.due ≡ x → Same n (after_record s a l x)
-        go (Ok r) z =
-            let k = carried a.state r l in
-            of-both (Same n) (eqb k.done.code 0) (pass (past a r.next k.done.state) k.events) (pass (refused a k.done.code (length s)) k.events)
-            (λ _. f r z k.done.state k.events)
-            (stopped n (pass (refused a k.done.code (length s)) k.events) (omega arith))
+        go (Ok r) z = each r z (carried a.state r l).events (carried a.state r l).done
         go (Err e) z = stopped n (pass (refused a (number_of e) (length s)) l) (omega arith)
 
   module _ (h : lo ≤ hi) where

@@ -27,10 +27,10 @@ use Rattle.state.specs.Calls.{new_of, answered}
 use Rattle.reel.specs.declared.records.Record.{Record}
 use Rattle.reel.specs.Records.{record_at}
 use Rattle.reel.proofs.Reaching.{reached}
-use Rattle.carrying.specs.declared.Carried.{Carried}
+use Rattle.carrying.specs.declared.State.{State}
 use Rattle.carrying.specs.Carry.{Left, left, carried, state_of}
 use Rattle.spool.specs.declared.Run.{Run}
-use Rattle.spool.specs.Play.{blank_state, refused, past, Pass, pass, after_call, after_record, step_by, step_of}
+use Rattle.spool.specs.Play.{blank_state, refused, past, Pass, pass, after_done, after_call, after_record, step_by, step_of}
 
 pub parts : {a : Run} {l : List ℤ} {p : Pass} → pass a l ≡ p → (a ≡ p.run) × (l ≡ p.events)
 parts h = (ap (λ (q : Pass). q.run) h, ap (λ (q : Pass). q.events) h)
@@ -42,7 +42,7 @@ parts-by q h = let k = parts h in (q ∙ k.0, k.1)
 pub joined : {a : Run} {l : List ℤ} {p : Pass} → a ≡ p.run → l ≡ p.events → pass a l ≡ p
 joined h k = rw (h, k)
 
-pub left_by_lem : {k : Carried} {x : List ℤ} {t : Left} → k ≡ t.done → x ≡ t.events → left k x ≡ t
+pub left_by_lem : {k : Result State ℕ} {x : List ℤ} {t : Left} → k ≡ t.done → x ≡ t.events → left k x ≡ t
 left_by_lem h k = rw (h, k)
 
 module _ (s : List ℕ) (a : Run) (l : List ℤ) where
@@ -53,19 +53,15 @@ module _ (s : List ℕ) (a : Run) (l : List ℤ) where
   pub unread : (e : Refusal) → Err e ≡ record_at s a.at a.due → pass (refused a (number_of e) (length s)) l ≡ step_of s a l
   unread e h = opened (Err e) h
 
-  module _ (r : Record) (z : Ok r ≡ record_at s a.at a.due) (k : Carried) (x : List ℤ) (t : left k x ≡ carried a.state r l) where
-    called : after_call s a r (left k x) ≡ step_of s a l
-    called = ap (after_call s a r) t ∙ opened (Ok r) z
+  module _ (r : Record) (z : Ok r ≡ record_at s a.at a.due) (x : List ℤ) where
+    called : (k : Result State ℕ) → left k x ≡ carried a.state r l → after_done s a r x k ≡ step_of s a l
+    called k t = ap (after_call s a r) t ∙ opened (Ok r) z
 
-    pub refused-call : (k.code ≡ 0 → ⊥) → pass (refused a k.code (length s)) x ≡ step_of s a l
-    refused-call n =
-        let g : pass (refused a k.code (length s)) x ≡ after_call s a r (left k x) = rw (ne_eqb k.code 0 n) in
-        g ∙ called
+    pub refused-call : (n : ℕ) → left (Err n) x ≡ carried a.state r l → pass (refused a n (length s)) x ≡ step_of s a l
+    refused-call n t = called (Err n) t
 
-    pub done-call : k.code ≡ 0 → pass (past a r.next k.state) x ≡ step_of s a l
-    done-call n =
-        let g : pass (past a r.next k.state) x ≡ after_call s a r (left k x) = rw (eq-eqb k.code 0 n) in
-        g ∙ called
+    pub done-call : (y : State) → left (Ok y) x ≡ carried a.state r l → pass (past a r.next y) x ≡ step_of s a l
+    done-call y t = called (Ok y) t
 
 -- ---- the parts of a run, put together
 no-track : (new_of (pos 0) (pos 0)).track ≡ new_track (pos 0) (pos 0)
@@ -80,11 +76,6 @@ pub blank-by : {t : TrackAnswer} {c : CycleTable} {b : BudgetAnswer} → t ≡ n
 unfolding blank_state
 blank-by p q r = rw (p, q, r, no-track, no_bytes)
 
--- what holds of both of a choice holds of the choice
-pub of-both : (P : Pass → Type 0) (b : Bool) (x y : Pass) → (b ≡ true → P x) → P y → P (cond b x y)
-of-both P true x y f g = f refl
-of-both P false x y f g = g
-
 module _ (s : List ℕ) (a : Run) (l : List ℤ) (h : a.at < length s) where
   abbrev On : Pass → Type 0
   On p = (a.at < p.run.at) × (p.run.index ≤ a.index + 1)
@@ -93,10 +84,10 @@ module _ (s : List ℕ) (a : Run) (l : List ℤ) (h : a.at < length s) where
   unfolding step_by
   moves = go (record_at s a.at a.due) refl
     where
+      each : (r : Record) → record_at s a.at a.due ≡ Ok r → (e : List ℤ) (d : Result State ℕ) → On (after_done s a r e d)
+      each r z e (Ok y) = let n = reached list_limit s a.at a.due r z in (omega (arith, n.past), omega arith)
+      each r z e (Err m) = (h, omega arith)
+
       go : (x : Result Record Refusal) → record_at s a.at a.due ≡ x → On (after_record s a l x)
-      go (Ok r) e =
-          let k = carried a.state r l in
-          of-both On (eqb k.done.code 0) (pass (past a r.next k.done.state) k.events) (pass (refused a k.done.code (length s)) k.events)
-          (λ _. (let n = reached list_limit s a.at a.due r e in omega (arith, n.past), omega arith))
-          (h, omega arith)
+      go (Ok r) e = each r e (carried a.state r l).events (carried a.state r l).done
       go (Err e) _ = (h, omega arith)

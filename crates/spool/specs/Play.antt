@@ -39,10 +39,12 @@ pub record Pass : Type 0 where
 abbrev pub pass : Run → List ℤ → Pass
 pass a l = record { run = a; events = l }
 
+abbrev pub after_done : List ℕ → Run → Record → List ℤ → Result State ℕ → Pass
+after_done s a r l (Ok x) = pass (past a r.next x) l
+after_done s a r l (Err n) = pass (refused a n (length s)) l
+
 abbrev pub after_call : List ℕ → Run → Record → Left → Pass
-after_call s a r k =
-    cond (eqb k.done.code 0) (pass (past a r.next k.done.state) k.events)
-    (pass (refused a k.done.code (length s)) k.events)
+after_call s a r k = after_done s a r k.events k.done
 
 abbrev pub after_record : List ℕ → Run → List ℤ → Result Record Refusal → Pass
 after_record s a l (Ok r) = after_call s a r (carried a.state r l)

@@ -100,14 +100,10 @@ fn step(run: Run, tape: &[u8], events: &mut [i64]) -> Run
 {
     match record_at(tape, run.at, run.due) {
         Err(refusal) => refuse(run, refusal.number(), tape.len()),
-        Ok(r) => {
-            let k = carry_out(run.state, r, events);
-            if k.code != 0 {
-                refuse(run, k.code, tape.len())
-            } else {
-                pass_on(run, r.next, k.state)
-            }
-        }
+        Ok(r) => match carry_out(run.state, r, events) {
+            Err(code) => refuse(run, code, tape.len()),
+            Ok(state) => pass_on(run, r.next, state),
+        },
     }
 }
 

@@ -16,22 +16,22 @@ returns-in-Err c =
     parts-by (c.refuse.ensures ∙ ap (λ (k : ℕ). refused a.run k n) c.number.ensures)
     (unread a.tape.now a.run a.events.now c.in-Err.refusal (sym c.in-Err.is ∙ c.record_at.ensures))
 
-pub carry_out-k-requires : goal.carry_out-k-requires
-carry_out-k-requires c =
+pub carry_out-requires : goal.carry_out-requires
+carry_out-requires c =
     let a = c.args in
     let n = reached list_limit a.tape.now a.run.at a.run.due c.in-Ok.r (sym c.record_at.ensures ∙ c.in-Ok.is) in
     omega (arith, n.few)
 
-pub returns-then-k-ne0 : goal.returns-then-k-ne0
-returns-then-k-ne0 c =
+pub returns-in-Err-carry_out : goal.returns-in-Err-carry_out
+returns-in-Err-carry_out c =
     let a = c.args in
-    let k = c.carry_out-k in
-    parts-by c.refuse-then-k-ne0.ensures
-    (refused-call a.tape.now a.run a.events.now c.in-Ok.r (sym c.in-Ok.is ∙ c.record_at.ensures) k.result _ (left_by_lem k.ensures.0 k.ensures.1) c.if-k-ne0.true)
+    let k = c.carry_out in
+    parts-by c.refuse-in-Err-carry_out.ensures
+    (refused-call a.tape.now a.run a.events.now c.in-Ok.r (sym c.in-Ok.is ∙ c.record_at.ensures) _ c.in-Err-carry_out.code (left_by_lem (sym c.in-Err-carry_out.is ∙ k.ensures.0) k.ensures.1))
 
-pub returns-else-k-ne0 : goal.returns-else-k-ne0
-returns-else-k-ne0 c =
+pub returns-in-Ok-carry_out : goal.returns-in-Ok-carry_out
+returns-in-Ok-carry_out c =
     let a = c.args in
-    let k = c.carry_out-k in
+    let k = c.carry_out in
     parts-by c.pass_on.ensures
-    (done-call a.tape.now a.run a.events.now c.in-Ok.r (sym c.in-Ok.is ∙ c.record_at.ensures) k.result _ (left_by_lem k.ensures.0 k.ensures.1) c.if-k-ne0.false)
+    (done-call a.tape.now a.run a.events.now c.in-Ok.r (sym c.in-Ok.is ∙ c.record_at.ensures) _ c.in-Ok-carry_out.state (left_by_lem (sym c.in-Ok-carry_out.is ∙ k.ensures.0) k.ensures.1))
