@@ -26,7 +26,7 @@ use Rattle.tables.specs.declared.OnNoteWave.{OnNoteWave}
 use Rattle.tables.specs.declared.OnNoteSine.{OnNoteSine}
 use Rattle.tables.specs.Reservations.{ok_values, ok_wave, ok_sine}
 use Rattle.tables.specs.Sixteen.{keyed}
-use Rattle.tables.specs.Tables.{no_note, no_wave, no_sine, note_at, wave_at, sine_at, cycle_at, notes_left, waves_left, sines_left, cycles_left, note_keys, wave_keys, sine_keys, cycle_keys}
+use Rattle.tables.specs.Tables.{no_note, no_wave, no_sine, notes_left, waves_left, sines_left, cycles_left, note_keys, wave_keys, sine_keys, cycle_keys}
 use Rattle.state.specs.declared.Track.{Track}
 use Rattle.state.specs.Track.{cycles_of}
 use Rattle.state.proofs.Parts.{track-play}
