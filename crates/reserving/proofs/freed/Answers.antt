@@ -6,7 +6,7 @@ use lib.IntN.{ℤ}
 use Rattle.cycles.specs.Due.{key}
 use Rattle.reserving.specs.Clearing.{refusal, cleared, reserving}
 use Rattle.numbers.specs.Refusals.{told}
-use Rattle.state.proofs.Told.{some-number}
+use Rattle.numbers.proofs.Asking.{some-number}
 use Rattle.reserving.proofs.Refusing.{usable}
 use Rattle.reserving.proofs.Settling.{refused, done}
 use Rattle.reserving.proofs.freed.Goals.{After-asked}
