@@ -68,7 +68,7 @@ fn value_in(events: &[i64], count: usize, a: Asked) -> i64
 #[repr(C)]
 #[derive(Clone, Copy)]
 pub struct CcValue {
-    pub code: u32,
+    pub code: u32, // a number beside what it goes with: C reads this record
     pub value: i64,
 }
 

@@ -31,7 +31,7 @@ pub const L: u32 = 4;
 #[repr(C)]
 #[derive(Clone, Copy)]
 pub struct TrackValue {
-    pub code: u32,
+    pub code: u32, // a number beside what it goes with: C reads this record
     pub value: i32,
     pub track: Track,
 }
@@ -40,7 +40,7 @@ pub struct TrackValue {
 #[repr(C)]
 #[derive(Clone, Copy)]
 pub struct TrackVelocity {
-    pub code: u32,
+    pub code: u32, // a number beside what it goes with: C reads this record
     pub value: i64,
     pub track: Track,
 }

@@ -24,7 +24,7 @@ use values::WriteOption;
 #[repr(C)]
 #[derive(Clone, Copy)]
 pub struct Kept {
-    pub code: u32,
+    pub code: u32, // a number beside what it goes with: C reads this record
     pub track: Track,
     pub cycles: [Cycle; PLACES],
 }
