@@ -61,13 +61,13 @@ Velocity layers of their own
 A cycle over time of its own
     ctrack::cycle_time_calc
 """
-# The setters of a controller or a bend: what is called of a target, what stands before the call, and what is handed to it.
+# The setters of a controller or a bend: what is called of a target, and what is handed to it besides the track and the cycles.
 BY_TARGET = {
-    'remove_cc_on': ('remove_reserve', ['let target = drawing::cc_target(number);'], ['target']),
-    'set_cc_on_note': ('set_on_note', ['let target = drawing::cc_target(number);'], ['target', 'list']),
-    'set_cc_on_note_wave': ('set_on_note_wave', ['let target = drawing::cc_target(number);', 'let mode = as_it_is();'], ['target', 'mode', 'list']),
-    'set_pb_on_note_wave': ('set_on_note_wave', ['let target = drawing::pb_target(big);', 'let mode = as_it_is();'], ['target', 'mode', 'list']),
-    'remove_pb_on_note_wave': ('remove_reserve', ['let target = bend();'], ['target']),
+    'remove_cc_on': ('remove_reserve', ['drawing::cc_target(number)']),
+    'set_cc_on_note': ('set_on_note', ['drawing::cc_target(number)', 'list']),
+    'set_cc_on_note_wave': ('set_on_note_wave', ['drawing::cc_target(number)', 'NORMAL', 'list']),
+    'set_pb_on_note_wave': ('set_on_note_wave', ['drawing::pb_target(big)', 'NORMAL', 'list']),
+    'remove_pb_on_note_wave': ('remove_reserve', ['BENDS']),
 }
 
 # What a call by value answers: where it stands, the record that is said of it, and what that says.
@@ -100,7 +100,17 @@ HOME = {**{k: v[0] for k, v in ANSWERS.items()}, 'Answer': 'lending', 'Track': '
         'CycleTimeAnswer': 'reserved'}
 WORD = r"(?<![\w'\-.])%s(?![\w'\-])"
 LENT = ('track', 'param', 'layers', 'event', 'cycle', 'budget', 'count')  # by value to the call, by reference here
-ALONE = ('eventlist', 'sorting', 'notes', 'cutting', 'chunks', 'reader', 'profile')  # calls that are lent slices and numbers alone: their answers are read field by field
+# The answers that several calls give: what leaves them where the last parameters point, what its contract says of them, and what is said of it.
+LEAVES = {
+    'TrackAnswer': ('leave_track', 'TrackLeft answer result track.new', 'The track goes where it was lent.'),
+    'TrackValue': ('leave_value', 'ValueLeft answer result value.new track.new', 'The same with a value.'),
+    'Outcome': ('leave_outcome', '(result ≡ answer.code) × (count.new ≡ answer.count) × (budget.new ≡ answer.budget)', 'A write\'s count and budget.'),
+    'Taken': ('leave_count', '(result ≡ answer.code) × (count.new ≡ answer.count)', 'A list\'s count.'),
+    'ParamAnswer': ('leave_param', 'ParamLeft answer result param.new', 'A parameter that is lent by itself.'),
+    'ParamValue': ('leave_param_value', 'ParamTaken answer result value.new param.new', 'The same with a value.'),
+    'Told': ('leave_told', 'ParamTold answer result value.new', 'A value alone.'),
+    'LayersAnswer': ('leave_layers', 'LayersLeft answer result layers.new', 'Layers that are lent by themselves.'),
+}
 
 
 def left_of(answer):
@@ -269,21 +279,32 @@ class Export:
         return wrapped(c)
 
     def body(self):
-        g, args = self.g, ', '.join(self.args)
-        call, lets = f'{g.owner or g.crate}::{g.name}'.removeprefix('ctrack::'), []
-        if self.whole or self.answer == 'u32':
-            return f'    {call}({args})'
+        g, args = self.g, self.args
+        call = f'{g.owner or g.crate}::{g.name}'.removeprefix('ctrack::')
+        if not self.whole and g.params[0][0] == 'self':
+            call, args = f'{self.params[0][0]}.{g.name}', args[1:]
         if self.by_target:
-            call, lets, args = f'loans::{self.by_target[0]}', self.by_target[1], ', '.join(['*track', 'cycles'] + self.by_target[2])
-        part = lambda f: f'r.{f}' if g.crate in ALONE else f'{snake(self.result)}_{f}(r)'
-        made = f'    let r = {call}({args});'
-        if len(made) > WIDE:
-            made = f'    let r = {call}(\n        {args},\n    );'
-        return '\n'.join([f'    {l}' for l in lets] + [made] + [f'    *{self.out[f]} = {part(f)};' for f in self.stores] + [f'    {part("code")}'])
+            call, args = f'loans::{self.by_target[0]}', ['*track', 'cycles'] + self.by_target[1]
+        if self.whole or self.answer == 'u32':
+            return f'    {call}({", ".join(args)})'
+        call = f'{call}({", ".join(args)})'
+        if self.result in LEAVES:
+            to = ', '.join(self.out[f] for f in self.stores)
+            leave = LEAVES[self.result][0]
+            one = f'    {leave}({call}, {to})'
+            return one if len(f'{call}, {to}') <= 60 else f'{bound(call)}\n    {leave}(r, {to})'
+        return '\n'.join([bound(call)] + [f'    *{self.out[f]} = r.{f};' for f in self.stores] + ['    r.code'])
 
     def text(self, alias, way):
         return (f'{self.comment()}\n{way} {listed(self.name, self.params, self.answer if self.whole else "u32", way)}\n'
                 f'    ensures {{ {self.contract(alias)} }}\n{{\n{self.body()}\n}}\n')
+
+
+def bound(call):
+    """What a call answers, named: on a line, or its arguments on one of their own."""
+    line = f'    let r = {call};'
+    name, _, args = call.partition('(')
+    return line if len(line) <= WIDE else f'    let r = {name}(\n        {args[:-1]},\n    );'
 
 
 def listed(name, params, result, way):
@@ -311,30 +332,9 @@ HEAD = '''// The calls as a C program makes them, by the names of docs/API.md af
 #![tactic(auto)]
 
 '''
-OWN_CITES = {'Rattle.reserving.specs.Old': ['normal'], 'Rattle.sines.specs.Kinds': ['number_of', 'sine_type'], 'Rattle.reserved.specs.Cycle': ['said', 'calc_of'], 'Rattle.ctrack.specs.Kinds': ['told_of']}
-OWN = '''// What the setters of a controller or a bend hand to those of a target: a wave as it is, and the code of the bends.
-fn as_it_is() -> u32
-    ensures { result ≡ normal }
-{
-    0
-}
-
-fn bend() -> i32
-    ensures { result ≡ pos 129 }
-{
-    129
-}
-
-// The kind of a sine as a number: 0 the full turn, 1 and 2 the quarters up and down.
-fn shape_of(kind: SineType) -> u32
-    ensures { result ≡ number_of kind }
-{
-    match kind {
-        SineType::Sine => 0,
-        SineType::UpSine => 1,
-        SineType::DownSine => 2,
-    }
-}
+OWN_CITES = {'Rattle.sines.specs.Kinds': ['number_of', 'sine_type'], 'Rattle.reserved.specs.Cycle': ['said', 'calc_of'], 'Rattle.ctrack.specs.Kinds': ['told_of']}
+OWN = '''// The code of the bends, for whichever of the two a target is.
+const BENDS: i32 = 129;
 
 // What a cycle over time answers, in numbers: `found` is 1 where it has a value, else 0.
 #[derive(Clone, Copy)]
@@ -344,22 +344,22 @@ pub struct CycleTold {
     pub value: i32,
 }
 
-fn cycle_told(answer: CycleValue) -> CycleTold
+fn cycle_told(answer: Result<Option<i32>, Refusal>) -> CycleTold
     ensures { result ≡ told_of (said answer) }
 {
     match answer {
-        CycleValue::Value(value) => CycleTold {
+        Ok(Some(value)) => CycleTold {
             code: 0,
             found: 1,
-            value: value,
+            value,
         },
-        CycleValue::Nothing => CycleTold {
+        Ok(None) => CycleTold {
             code: 0,
             found: 0,
             value: 0,
         },
-        CycleValue::Refused => CycleTold {
-            code: 4,
+        Err(refusal) => CycleTold {
+            code: refusal.number(),
             found: 0,
             value: 0,
         },
@@ -370,8 +370,7 @@ fn cycle_told(answer: CycleValue) -> CycleTold
 fn cycle_time_calc(cycle: OnCycleTime, timepos: i64) -> CycleTold
     ensures { result ≡ told_of (calc_of cycle timepos) }
 {
-    let answer = cycle.calc(timepos);
-    cycle_told(answer)
+    cycle_told(cycle.calc(timepos))
 }
 '''
 SINE_TYPE = '''// ---- the kind of a sine
@@ -380,9 +379,7 @@ SINE_TYPE = '''// ---- the kind of a sine
 {way} dollavir_sine_type(v: i32) -> u32
     ensures { result ≡ number_of (sine_type v) }
 {
-    let wide = widened(v);
-    let kind = SineType::from_i(wide);
-    shape_of(kind)
+    SineType::from_i(i64::from(v)) as u32
 }
 '''
 
@@ -411,20 +408,22 @@ def written():
             alias.update({(x.name, n): short for x in xs})
     records = dict.fromkeys(ANSWERS[x.answer][1] for x in lent)
     types = set(re.findall(r'[A-Z]\w*', ' '.join(t for x in every for _, t in x.params)))
-    types |= {x.g.owner for x in every if x.g.owner} | {x.result for x in every if x.g.crate not in ALONE and x.result[0].isupper()}
-    out = [HEAD + 'ghost use Rattle.std.specs.Prelude.{◌≡◌, pos, length};']
+    types |= {x.g.owner for x in every if x.whole and x.g.owner} | {x.result for x in every if x.whole and x.result[0].isupper()} | set(LEAVES)
+    out = [HEAD + 'ghost use Rattle.std.specs.Prelude.{◌≡◌, length};']
     for module, names in OWN_CITES.items():
         uses[module] = list(dict.fromkeys(uses.get(module, []) + names))
     out += ghost_uses(uses) + ghost_uses({'Rattle.ctrack.specs.Lent': records}) + ['']
     brought = {}
-    for t in sorted(types) + ['CycleValue', 'SineType', 'widened']:
-        home = {'CycleValue': 'reserved', 'SineType': 'sines', 'widened': 'values'}.get(t) or HOME[t]
+    for t in sorted(types) + ['Refusal', 'SineType', 'NORMAL']:
+        home = {'Refusal': 'numbers', 'SineType': 'sines', 'NORMAL': 'tables'}.get(t) or HOME[t]
         if home != 'ctrack':
             brought.setdefault(home, set()).add(t)
     out += [f'use {home}::{sorted(ts)[0]};' if len(ts) == 1 else f'use {home}::{{{", ".join(sorted(ts))}}};' for home, ts in sorted(brought.items())]
-    out += ['', '// The parts of what a call by value answers.']
-    for a, f in dict.fromkeys((x.result, f) for x in lent if x.g.crate not in ALONE for f in x.stores + ['code']):
-        out.append(f'fn {snake(a)}_{f}(a: {a}) -> {dict(fields(a))[f]}\n    ensures {{ result ≡ a.{f} }}\n{{\n    a.{f}\n}}\n')
+    out += ['', '// What a call by value answers, left where it was lent or is asked for; the number is answered.']
+    for a, (name, says, about) in LEAVES.items():
+        ps = [(f, t) for f, t in fields(a) if f != 'code']
+        out.append(f'// {about}\nfn ' + listed(name, [('answer', a)] + [(f, f'&mut {t}') for f, t in ps], 'u32', 'fn') + f'\n    ensures {{ {says} }}\n{{\n'
+                   + ''.join(f'    *{f} = answer.{f};\n' for f, _ in ps) + '    answer.code\n}\n')
     out.append(OWN)
     for title, xs in sections:
         out += [f'// ---- {title[0].lower() + title[1:]}'] + [x.text(alias, way) for x in xs]
@@ -436,11 +435,11 @@ def written():
     for t in dict.fromkeys(t for a in answers for t in [a] + re.findall(r'[A-Z]\w+', ' '.join(denot(t) for _, t in fields(a)).replace('List ', ''))):
         spec.append(f'use Rattle.{HOME[t]}.specs.declared.{t}.{{{t}}}')
     for a in answers:
-        (_, name, about), listed = ANSWERS[a], a in LISTED
+        (_, name, about), besides = ANSWERS[a], a in LISTED
         parts = [(f, t) for f, t in fields(a) if f != 'code']
         of = LISTED.get(a)
-        args = f'(a : {a})' + f' (l : List {of})' * listed + ' (r : ℕ)' + ''.join(f' ({LETTER[f]} : {denot(t)})' for f, t in parts) + f' (m : List {of})' * listed
-        spec += ['', f'-- {about}', f'pub record {name} {args} : Type 0 where', '  pub code : r ≡ a.code'] + [f'  pub {f} : {LETTER[f]} ≡ a.{f}' for f, _ in parts] + [f'  pub {left_of(a)} : m ≡ l'] * listed
+        args = f'(a : {a})' + f' (l : List {of})' * besides + ' (r : ℕ)' + ''.join(f' ({LETTER[f]} : {denot(t)})' for f, t in parts) + f' (m : List {of})' * besides
+        spec += ['', f'-- {about}', f'pub record {name} {args} : Type 0 where', '  pub code : r ≡ a.code'] + [f'  pub {f} : {LETTER[f]} ≡ a.{f}' for f, _ in parts] + [f'  pub {left_of(a)} : m ≡ l'] * besides
     return {path: '\n'.join(out + [SINE_TYPE.replace('{way}', way)]), 'crates/ctrack/specs/Lent.antt': '\n'.join(spec) + '\n'}
 
 

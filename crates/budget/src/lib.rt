@@ -25,7 +25,7 @@ pub struct Budget {
 #[repr(C)]
 #[derive(Clone, Copy)]
 pub struct BudgetAnswer {
-    pub code: u32,
+    pub code: u32, // a number beside what it goes with: C reads this record
     pub budget: Budget,
 }
 

@@ -22,7 +22,7 @@ use Rattle.state.specs.Calls.{set_cc_freq, set_pb_freq}
 use Rattle.reel.specs.declared.marks.Mark.{Mark}
 use Rattle.reel.specs.declared.records.Record.{Record}
 use Rattle.carrying.specs.declared.State.{State}
-use Rattle.carrying.specs.declared.Carried.{Carried}
+use Rattle.std.specs.Prelude.{Result}
 use Rattle.carrying.specs.Carry.{second, after_first, both_freqs, Left, carried_as, carried}
 
 module _ (a : Track) (x y : ℤ) (t : TrackAnswer) (e : t ≡ set_cc_freq a x) where
@@ -54,7 +54,7 @@ maximum-asked (pos n) y h = rw (le-leb 0 n (omega arith)) (go (leb n byte_limit)
 maximum-asked (negsuc n) y h = rw (lt-leb (2 ^ 32 - suc n) byte_limit (omega arith))
 
 -- a record whose mark is m is carried out as m's
-pub by-mark : (s : State) (r : Record) (l : List ℤ) (m : Mark) → r.mark ≡ m → {d : Carried} {x : List ℤ} → d ≡ (carried_as m s r l).done → x ≡ (carried_as m s r l).events
+pub by-mark : (s : State) (r : Record) (l : List ℤ) (m : Mark) → r.mark ≡ m → {d : Result State ℕ} {x : List ℤ} → d ≡ (carried_as m s r l).done → x ≡ (carried_as m s r l).events
     → (d ≡ (carried s r l).done) × (x ≡ (carried s r l).events)
 by-mark s r l m e p q =
     let g = ap (λ (k : Mark). carried_as k s r l) (sym e) in

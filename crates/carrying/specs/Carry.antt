@@ -1,6 +1,6 @@
 -- 01, "The tape program": the call that each record names, and what it leaves. Everything is said by the calls' own
 -- definitions; a list is handed to a call as the record has it.
-use Rattle.std.specs.Prelude.{cond, List, ℕ, eqb, ℤ}
+use Rattle.std.specs.Prelude.{cond, Result, Ok, Err, List, ℕ, eqb, ℤ}
 use Rattle.std.specs.Int.{w32}
 use Rattle.std.proofs.Common.{of_z}
 use Rattle.numbers.specs.Limits.{places}
@@ -21,34 +21,33 @@ use Rattle.reserving.specs.Setting.{set_on_cycle}
 use Rattle.cycling.specs.declared.Cycled.{Cycled}
 use Rattle.cycling.specs.Calls.{cycled_of, cycled_list}
 use Rattle.reel.specs.declared.marks.Mark.{Mark}
-use Rattle.reel.specs.declared.marks.Mark.TheVariants.{Track as TK, Budget as MX, Time as TP, Freqs as FQ, Curve as OT, Cycle as CY, Turn as RC, Cut as PF, Unknown}
+use Rattle.reel.specs.declared.marks.Mark.TheVariants.{Track as TK, Budget as MX, Time as TP, Freqs as FQ, Curve as OT, Cycle as CY, Turn as RC, Cut as PF}
 use Rattle.reel.specs.declared.records.Record.{Record}
 use Rattle.carrying.specs.declared.State.{State}
-use Rattle.carrying.specs.declared.Carried.{Carried}
 
--- a call's number, and the state after it
-abbrev pub carried_to : ℕ → State → Carried
-carried_to n s = record { code = n; state = s }
+-- the state after a call, or its number where it refuses
+abbrev pub carried_to : ℕ → State → Result State ℕ
+carried_to n s = cond (eqb n 0) (Ok s) (Err n)
 
 abbrev pub state_of : Track → List Cycle → Budget → ℕ → State
 state_of a cs b n = record { track = a; cycles = cs; budget = b; count = n }
 
 -- ---- TK timebase channel
-abbrev pub track_answered : State → TrackAnswer → Carried
+abbrev pub track_answered : State → TrackAnswer → Result State ℕ
 track_answered s t = carried_to t.code (state_of t.track s.cycles s.budget s.count)
 
-unfoldable pub make_track : State → Record → Carried
+unfoldable pub make_track : State → Record → Result State ℕ
 make_track s r = track_answered s (new_of r.x r.y)
 
 -- ---- MX maximum seed: "the seed as bits"; of a maximum below 0 the bits are above every maximum
-abbrev pub budget_answered : State → BudgetAnswer → Carried
+abbrev pub budget_answered : State → BudgetAnswer → Result State ℕ
 budget_answered s b = carried_to b.code (state_of s.track s.cycles b.budget s.count)
 
-unfoldable pub make_budget : State → Record → Carried
+unfoldable pub make_budget : State → Record → Result State ℕ
 make_budget s r = budget_answered s (new_budget (of_z w32 r.y) (of_z w32 r.x))
 
 -- ---- TP timepos
-unfoldable pub move_to : State → Record → Carried
+unfoldable pub move_to : State → Record → Result State ℕ
 move_to s r = track_answered s (set_timepos s.track r.x)
 
 -- ---- FQ controller-frequency bend-frequency: refused, neither is set
@@ -61,25 +60,25 @@ after_first a y t = cond (eqb t.code 0) (second a (set_pb_freq t.track y)) t
 unfoldable pub both_freqs : Track → ℤ → ℤ → TrackAnswer
 both_freqs a x y = after_first a y (set_cc_freq a x)
 
-unfoldable pub set_freqs : State → Record → Carried
+unfoldable pub set_freqs : State → Record → Result State ℕ
 set_freqs s r = track_answered s (both_freqs s.track r.x r.y)
 
 -- ---- OT target n values, a curve; the tape has no store of bytes
 unfoldable pub curve_of : State → Record → List ℤ → Draw
 curve_of s r l = on_time s.track r.x (shown r.list) s.budget l s.count 0
 
-abbrev pub drawn_to : State → Outcome → Carried
+abbrev pub drawn_to : State → Outcome → Result State ℕ
 drawn_to s o = carried_to o.code (state_of s.track s.cycles o.budget o.count)
 
 -- ---- CY target length n values, a cycle set
-abbrev pub kept_to : State → Kept → Carried
+abbrev pub kept_to : State → Kept → Result State ℕ
 kept_to s k = carried_to k.code (state_of k.track k.cycles s.budget s.count)
 
-unfoldable pub set_cycle : State → Record → Carried
+unfoldable pub set_cycle : State → Record → Result State ℕ
 set_cycle s r = kept_to s (set_on_cycle s.track places s.cycles r.x r.y (shown r.list))
 
 -- ---- RC until, cycle writes
-abbrev pub cycled_to : State → Cycled → Carried
+abbrev pub cycled_to : State → Cycled → Result State ℕ
 cycled_to s k = carried_to k.code (state_of s.track k.cycles k.budget k.count)
 
 unfoldable pub turn_answer : State → Record → List ℤ → Cycled
@@ -89,18 +88,18 @@ unfoldable pub turn_list : State → Record → List ℤ → List ℤ
 turn_list s r l = cycled_list s.track places s.cycles r.x s.budget l s.count
 
 -- ---- PF cut, the plain one
-abbrev pub cut_to : State → Taken → Carried
+abbrev pub cut_to : State → Taken → Result State ℕ
 cut_to s t = carried_to t.code (state_of s.track s.cycles s.budget t.count)
 
 -- what carrying a record out answers, and every number of the list then
 pub record Left : Type 0 where
-  pub done : Carried
+  pub done : Result State ℕ
   pub events : List ℤ
 
-abbrev pub left : Carried → List ℤ → Left
+abbrev pub left : Result State ℕ → List ℤ → Left
 left d l = record { done = d; events = l }
 
--- the record's call; a record that is read whole has a mark that is known
+-- the record's call
 unfoldable pub carried_as : Mark → State → Record → List ℤ → Left
 carried_as TK s r l = left (make_track s r) l
 carried_as MX s r l = left (make_budget s r) l
@@ -110,7 +109,6 @@ carried_as OT s r l = left (drawn_to s (draw_answer (curve_of s r l))) (draw_lef
 carried_as CY s r l = left (set_cycle s r) l
 carried_as RC s r l = left (cycled_to s (turn_answer s r l)) (turn_list s r l)
 carried_as PF s r l = left (cut_to s (cut_taken 0 l s.count (plain r.x))) (cut_left 0 l s.count (plain r.x))
-carried_as Unknown s r l = left (carried_to 8 s) l
 
 abbrev pub carried : State → Record → List ℤ → Left
 carried s r l = carried_as r.mark s r l

@@ -7,7 +7,7 @@ ghost use Rattle.numbers.specs.Limits.{list_limit};
 ghost use Rattle.drawing.specs.Calls.{draw_answer, draw_left, on_time};
 ghost use Rattle.reserving.specs.Setting.{set_on_cycle};
 ghost use Rattle.cutting.specs.Cuts.{cut_taken, cut_left, plain};
-ghost use Rattle.carrying.specs.Carry.{make_track, make_budget, move_to, both_freqs, set_freqs, curve_of, drawn_to, kept_to, set_cycle, cycled_to, turn_answer, turn_list, cut_to, carried};
+ghost use Rattle.carrying.specs.Carry.{carried_to, make_track, make_budget, move_to, both_freqs, set_freqs, curve_of, drawn_to, kept_to, set_cycle, cycled_to, turn_answer, turn_list, cut_to, carried};
 
 use budget::Budget;
 use cutting::play_from;
@@ -28,55 +28,55 @@ pub struct State {
     pub count: usize,
 }
 
-// What a record's call answers, and the state after it.
-#[derive(Clone, Copy)]
-pub struct Carried {
-    pub code: u32,
-    pub state: State,
+// The state after a call that was not refused, or the number that refused it: that of a public call's answer.
+fn carried_to(code: u32, state: State) -> Result<State, u32>
+    ensures { result ≡ carried_to code state }
+{
+    if code == 0 { Ok(state) } else { Err(code) }
 }
 
 // TK: a new track.
-fn make_track(state: State, r: Record) -> Carried
+fn make_track(state: State, r: Record) -> Result<State, u32>
     ensures { result ≡ make_track state r }
 {
     let t = Track::new(r.x, r.y);
-    Carried {
-        code: t.code,
-        state: State {
+    carried_to(
+        t.code,
+        State {
             track: t.track,
             ..state
         },
-    }
+    )
 }
 
 // MX: a new budget. A maximum below 0 has bits above every maximum, and is refused as one of those.
-fn make_budget(state: State, r: Record) -> Carried
+fn make_budget(state: State, r: Record) -> Result<State, u32>
     ensures { result ≡ make_budget state r }
 {
     let maximum = text::bits_of(r.x);
     let seed = text::bits_of(r.y);
     let b = Budget::new(seed, maximum);
-    Carried {
-        code: b.code,
-        state: State {
+    carried_to(
+        b.code,
+        State {
             budget: b.budget,
             ..state
         },
-    }
+    )
 }
 
 // TP: where the track stands.
-fn move_to(state: State, r: Record) -> Carried
+fn move_to(state: State, r: Record) -> Result<State, u32>
     ensures { result ≡ move_to state r }
 {
     let t = set_timepos(state.track, widened(r.x));
-    Carried {
-        code: t.code,
-        state: State {
+    carried_to(
+        t.code,
+        State {
             track: t.track,
             ..state
         },
-    }
+    )
 }
 
 // Both frequencies, or neither.
@@ -85,34 +85,39 @@ fn both_freqs(track: Track, controllers: i32, bends: i32) -> TrackAnswer
 {
     let first = set_cc_on_time_freq(track, controllers);
     if first.code != 0 {
-        return first;
+        first
+    } else {
+        let second = set_pb_on_time_freq(first.track, bends);
+        if second.code != 0 {
+            TrackAnswer { track, ..second }
+        } else {
+            second
+        }
     }
-    let second = set_pb_on_time_freq(first.track, bends);
-    if second.code != 0 {
-        return TrackAnswer {
-            code: second.code,
-            track: track,
-        };
-    }
-    second
 }
 
 // FQ: both frequencies.
-fn set_freqs(state: State, r: Record) -> Carried
+fn set_freqs(state: State, r: Record) -> Result<State, u32>
     ensures { result ≡ set_freqs state r }
 {
     let t = both_freqs(state.track, r.x, r.y);
-    Carried {
-        code: t.code,
-        state: State {
+    carried_to(
+        t.code,
+        State {
             track: t.track,
             ..state
         },
-    }
+    )
 }
 
 // A curve of the first n of `items`, for a target.
-fn draw_first(state: State, target: i32, items: &[i32], n: usize, events: &mut [i64]) -> Carried
+fn draw_first(
+    state: State,
+    target: i32,
+    items: &[i32],
+    n: usize,
+    events: &mut [i64],
+) -> Result<State, u32>
     requires { n ≤ length items.now }
     ensures { (result ≡ drawn_to state (draw_answer (on_time state.track target (take n items.now) state.budget events.old state.count 0)))
         × (events.new ≡ draw_left (on_time state.track target (take n items.now) state.budget events.old state.count 0)) }
@@ -126,18 +131,18 @@ fn draw_first(state: State, target: i32, items: &[i32], n: usize, events: &mut [
         state.count,
         b"",
     );
-    Carried {
-        code: o.code,
-        state: State {
+    carried_to(
+        o.code,
+        State {
             budget: o.budget,
             count: o.count,
             ..state
         },
-    }
+    )
 }
 
 // OT: a curve.
-fn draw(state: State, r: Record, events: &mut [i64]) -> Carried
+fn draw(state: State, r: Record, events: &mut [i64]) -> Result<State, u32>
     requires { r.list.count ≤ list_limit }
     ensures { (result ≡ drawn_to state (draw_answer (curve_of state r events.old))) × (events.new ≡ draw_left (curve_of state r events.old)) }
 {
@@ -145,25 +150,25 @@ fn draw(state: State, r: Record, events: &mut [i64]) -> Carried
 }
 
 // A cycle of the first n of `items`, for a target.
-fn keep_first(state: State, target: i32, len: i32, items: &[i32], n: usize) -> Carried
+fn keep_first(state: State, target: i32, len: i32, items: &[i32], n: usize) -> Result<State, u32>
     requires { n ≤ length items.now }
     ensures { result ≡ kept_to state (set_on_cycle state.track 16 state.cycles target len (take n items.now)) }
 {
     let k = set_on_cycle(state.track, PLACES, state.cycles, target, len, &items[..n]);
     // An array goes from one struct to another by a variable: the check covers no other way.
     let cycles = k.cycles;
-    Carried {
-        code: k.code,
-        state: State {
+    carried_to(
+        k.code,
+        State {
             track: k.track,
             cycles,
             ..state
         },
-    }
+    )
 }
 
 // CY: a cycle set.
-fn set_cycle(state: State, r: Record) -> Carried
+fn set_cycle(state: State, r: Record) -> Result<State, u32>
     requires { r.list.count ≤ list_limit }
     ensures { result ≡ set_cycle state r }
 {
@@ -171,7 +176,7 @@ fn set_cycle(state: State, r: Record) -> Carried
 }
 
 // RC: the cycles' writes up to a time.
-fn turn(state: State, r: Record, events: &mut [i64]) -> Carried
+fn turn(state: State, r: Record, events: &mut [i64]) -> Result<State, u32>
     ensures { (result ≡ cycled_to state (turn_answer state r events.old)) × (events.new ≡ turn_list state r events.old) }
 {
     let until = widened(r.x);
@@ -185,34 +190,34 @@ fn turn(state: State, r: Record, events: &mut [i64]) -> Carried
         state.count,
     );
     let cycles = k.cycles;
-    Carried {
-        code: k.code,
-        state: State {
+    carried_to(
+        k.code,
+        State {
             cycles,
             budget: k.budget,
             count: k.count,
             ..state
         },
-    }
+    )
 }
 
 // PF: the plain cut.
-fn cut(state: State, r: Record, events: &mut [i64]) -> Carried
+fn cut(state: State, r: Record, events: &mut [i64]) -> Result<State, u32>
     ensures { (result ≡ cut_to state (cut_taken 0 events.old state.count (plain r.x))) × (events.new ≡ cut_left 0 events.old state.count (plain r.x)) }
 {
     let at = widened(r.x);
     let t = play_from(events, state.count, at, b"");
-    Carried {
-        code: t.code,
-        state: State {
+    carried_to(
+        t.code,
+        State {
             count: t.count,
             ..state
         },
-    }
+    )
 }
 
 // Carries a record out that was read whole: the call that its mark names.
-pub fn carry_out(state: State, r: Record, events: &mut [i64]) -> Carried
+pub fn carry_out(state: State, r: Record, events: &mut [i64]) -> Result<State, u32>
     requires { r.list.count ≤ list_limit }
     ensures { (result ≡ (carried state r events.old).done) × (events.new ≡ (carried state r events.old).events) }
 {
@@ -225,6 +230,5 @@ pub fn carry_out(state: State, r: Record, events: &mut [i64]) -> Carried
         Mark::Cycle => set_cycle(state, r),
         Mark::Turn => turn(state, r, events),
         Mark::Cut => cut(state, r, events),
-        Mark::Unknown => Carried { code: 8, state },
     }
 }

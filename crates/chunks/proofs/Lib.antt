@@ -8,4 +8,3 @@ pub mod ReadBack
 pub mod Apart
 pub mod Calls
 pub mod Cases
-pub mod Asking

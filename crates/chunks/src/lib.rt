@@ -45,7 +45,7 @@ const LENGTH_TOP: usize = 4294967296;
 #[repr(C)]
 #[derive(Clone, Copy)]
 pub struct Chunk {
-    pub code: u32,
+    pub code: u32, // a number beside what it goes with: C reads this record
     pub bytes: usize,
 }
 

@@ -3,7 +3,7 @@
 // document 01's table. Refused, all that is lent stays as it is, and a value that is answered is 0. Written by tools/ctrack.py.
 #![tactic(auto)]
 
-ghost use Rattle.std.specs.Prelude.{◌≡◌, pos, length};
+ghost use Rattle.std.specs.Prelude.{◌≡◌, length};
 ghost use Rattle.state.specs.Calls.{new_of, set_timepos, set_channel, set_cc_freq, set_pb_freq};
 ghost use Rattle.budget.specs.Budgets.{new_budget};
 ghost use Rattle.cycles.specs.Rules.{no_cycle};
@@ -15,7 +15,7 @@ ghost use Rattle.drawing.specs.Options.{option_for, set_delay, set_random, set_r
 ghost use Rattle.params.specs.Calls.{set_delay as params_set_delay, set_random as params_set_random, set_range as params_set_range, clear_range as params_clear_range, set_repeat as params_set_repeat, set_on_note as params_set_on_note, set_on_cycle as params_set_on_cycle, set_on_time, clear_reserve, set_max, clear_max, has_reserve, calc_on_time, calc_on_note, apply_limit, maximum_or};
 ghost use Rattle.drawing.specs.Calls.{on_time, draw_answer, draw_left, cc_target, pb_target, sine_for, on_sine};
 ghost use Rattle.reserving.specs.Setting.{remove_reserve, set_on_note, set_on_note_wave, set_on_note_sine, set_on_cycle};
-ghost use Rattle.reserving.specs.Old.{remove_cc_on, set_cc_on_note, set_cc_on_note_wave, set_pb_on_note_wave, remove_pb_on_note_wave, remove_cc_on_note, remove_cc_on_note_wave, normal};
+ghost use Rattle.reserving.specs.Old.{remove_cc_on, set_cc_on_note, set_cc_on_note_wave, set_pb_on_note_wave, remove_pb_on_note_wave, remove_cc_on_note, remove_cc_on_note_wave};
 ghost use Rattle.noting.specs.Calls.{noted, list_left};
 ghost use Rattle.waving.specs.Calls.{note_written, note_left};
 ghost use Rattle.cycling.specs.Calls.{cycled_of, cycled_list};
@@ -39,275 +39,90 @@ ghost use Rattle.sines.specs.Kinds.{number_of, sine_type};
 ghost use Rattle.ctrack.specs.Lent.{TrackLeft, OptionTold, Written, Reserved, NoteWritten, CycleWritten, CcTold, ListLeft, ChunkLeft, ProfileTold, ValueLeft, VelocityLeft, SizeTold, ParamLeft, ParamTold, ParamTaken, LayersLeft, LayersSum, TimeTold};
 
 use budget::{Budget, BudgetAnswer};
-use cutting::CcValue;
 use cycles::Cycle;
-use drawing::OptionAnswer;
-use events::{Event, Made, Size};
-use layers::{Layers, LayersAnswer, Velocity};
-use lending::Answer;
-use noting::Noted;
+use eventlist::Taken;
+use events::{Event, Made};
+use layers::{Layers, LayersAnswer};
 use numbers::Refusal;
 use params::{NoteParam, ParamAnswer, ParamValue, Told};
-use playing::{TrackValue, TrackVelocity};
+use playing::TrackValue;
 use reserved::{CycleTimeAnswer, OnCycleTime};
 use sines::SineType;
 use state::{Track, TrackAnswer};
-use tables::{OnNoteSine, SineAnswer};
-use values::{WriteOption, widened};
+use tables::{NORMAL, OnNoteSine, SineAnswer};
+use values::WriteOption;
 use writing::Outcome;
 
-// The parts of what a call by value answers.
-fn track_answer_track(a: TrackAnswer) -> Track
-    ensures { result ≡ a.track }
+// What a call by value answers, left where it was lent or is asked for; the number is answered.
+// The track goes where it was lent.
+fn leave_track(answer: TrackAnswer, track: &mut Track) -> u32
+    ensures { TrackLeft answer result track.new }
 {
-    a.track
+    *track = answer.track;
+    answer.code
 }
 
-fn track_answer_code(a: TrackAnswer) -> u32
-    ensures { result ≡ a.code }
+// The same with a value.
+fn leave_value(answer: TrackValue, value: &mut i32, track: &mut Track) -> u32
+    ensures { ValueLeft answer result value.new track.new }
 {
-    a.code
+    *value = answer.value;
+    *track = answer.track;
+    answer.code
 }
 
-fn option_answer_option(a: OptionAnswer) -> WriteOption
-    ensures { result ≡ a.option }
+// A write's count and budget.
+fn leave_outcome(answer: Outcome, count: &mut usize, budget: &mut Budget) -> u32
+    ensures { (result ≡ answer.code) × (count.new ≡ answer.count) × (budget.new ≡ answer.budget) }
 {
-    a.option
+    *count = answer.count;
+    *budget = answer.budget;
+    answer.code
 }
 
-fn option_answer_code(a: OptionAnswer) -> u32
-    ensures { result ≡ a.code }
+// A list's count.
+fn leave_count(answer: Taken, count: &mut usize) -> u32
+    ensures { (result ≡ answer.code) × (count.new ≡ answer.count) }
 {
-    a.code
+    *count = answer.count;
+    answer.code
 }
 
-fn outcome_count(a: Outcome) -> usize
-    ensures { result ≡ a.count }
+// A parameter that is lent by itself.
+fn leave_param(answer: ParamAnswer, param: &mut NoteParam) -> u32
+    ensures { ParamLeft answer result param.new }
 {
-    a.count
+    *param = answer.param;
+    answer.code
 }
 
-fn outcome_budget(a: Outcome) -> Budget
-    ensures { result ≡ a.budget }
+// The same with a value.
+fn leave_param_value(answer: ParamValue, value: &mut i32, param: &mut NoteParam) -> u32
+    ensures { ParamTaken answer result value.new param.new }
 {
-    a.budget
+    *value = answer.value;
+    *param = answer.param;
+    answer.code
 }
 
-fn outcome_code(a: Outcome) -> u32
-    ensures { result ≡ a.code }
+// A value alone.
+fn leave_told(answer: Told, value: &mut i32) -> u32
+    ensures { ParamTold answer result value.new }
 {
-    a.code
+    *value = answer.value;
+    answer.code
 }
 
-fn noted_count(a: Noted) -> usize
-    ensures { result ≡ a.count }
+// Layers that are lent by themselves.
+fn leave_layers(answer: LayersAnswer, layers: &mut Layers) -> u32
+    ensures { LayersLeft answer result layers.new }
 {
-    a.count
+    *layers = answer.layers;
+    answer.code
 }
 
-fn noted_budget(a: Noted) -> Budget
-    ensures { result ≡ a.budget }
-{
-    a.budget
-}
-
-fn noted_track(a: Noted) -> Track
-    ensures { result ≡ a.track }
-{
-    a.track
-}
-
-fn noted_code(a: Noted) -> u32
-    ensures { result ≡ a.code }
-{
-    a.code
-}
-
-fn answer_count(a: Answer) -> usize
-    ensures { result ≡ a.count }
-{
-    a.count
-}
-
-fn answer_code(a: Answer) -> u32
-    ensures { result ≡ a.code }
-{
-    a.code
-}
-
-fn cc_value_value(a: CcValue) -> i64
-    ensures { result ≡ a.value }
-{
-    a.value
-}
-
-fn cc_value_code(a: CcValue) -> u32
-    ensures { result ≡ a.code }
-{
-    a.code
-}
-
-fn track_value_value(a: TrackValue) -> i32
-    ensures { result ≡ a.value }
-{
-    a.value
-}
-
-fn track_value_track(a: TrackValue) -> Track
-    ensures { result ≡ a.track }
-{
-    a.track
-}
-
-fn track_value_code(a: TrackValue) -> u32
-    ensures { result ≡ a.code }
-{
-    a.code
-}
-
-fn track_velocity_value(a: TrackVelocity) -> i64
-    ensures { result ≡ a.value }
-{
-    a.value
-}
-
-fn track_velocity_track(a: TrackVelocity) -> Track
-    ensures { result ≡ a.track }
-{
-    a.track
-}
-
-fn track_velocity_code(a: TrackVelocity) -> u32
-    ensures { result ≡ a.code }
-{
-    a.code
-}
-
-fn size_bytes(a: Size) -> usize
-    ensures { result ≡ a.bytes }
-{
-    a.bytes
-}
-
-fn size_code(a: Size) -> u32
-    ensures { result ≡ a.code }
-{
-    a.code
-}
-
-fn param_answer_param(a: ParamAnswer) -> NoteParam
-    ensures { result ≡ a.param }
-{
-    a.param
-}
-
-fn param_answer_code(a: ParamAnswer) -> u32
-    ensures { result ≡ a.code }
-{
-    a.code
-}
-
-fn told_value(a: Told) -> i32
-    ensures { result ≡ a.value }
-{
-    a.value
-}
-
-fn told_code(a: Told) -> u32
-    ensures { result ≡ a.code }
-{
-    a.code
-}
-
-fn param_value_value(a: ParamValue) -> i32
-    ensures { result ≡ a.value }
-{
-    a.value
-}
-
-fn param_value_param(a: ParamValue) -> NoteParam
-    ensures { result ≡ a.param }
-{
-    a.param
-}
-
-fn param_value_code(a: ParamValue) -> u32
-    ensures { result ≡ a.code }
-{
-    a.code
-}
-
-fn layers_answer_layers(a: LayersAnswer) -> Layers
-    ensures { result ≡ a.layers }
-{
-    a.layers
-}
-
-fn layers_answer_code(a: LayersAnswer) -> u32
-    ensures { result ≡ a.code }
-{
-    a.code
-}
-
-fn velocity_value(a: Velocity) -> i64
-    ensures { result ≡ a.value }
-{
-    a.value
-}
-
-fn velocity_layers(a: Velocity) -> Layers
-    ensures { result ≡ a.layers }
-{
-    a.layers
-}
-
-fn velocity_code(a: Velocity) -> u32
-    ensures { result ≡ a.code }
-{
-    a.code
-}
-
-fn cycle_told_found(a: CycleTold) -> u32
-    ensures { result ≡ a.found }
-{
-    a.found
-}
-
-fn cycle_told_value(a: CycleTold) -> i32
-    ensures { result ≡ a.value }
-{
-    a.value
-}
-
-fn cycle_told_code(a: CycleTold) -> u32
-    ensures { result ≡ a.code }
-{
-    a.code
-}
-
-// What the setters of a controller or a bend hand to those of a target: a wave as it is, and the code of the bends.
-fn as_it_is() -> u32
-    ensures { result ≡ normal }
-{
-    0
-}
-
-fn bend() -> i32
-    ensures { result ≡ pos 129 }
-{
-    129
-}
-
-// The kind of a sine as a number: 0 the full turn, 1 and 2 the quarters up and down.
-fn shape_of(kind: SineType) -> u32
-    ensures { result ≡ number_of kind }
-{
-    match kind {
-        SineType::Sine => 0,
-        SineType::UpSine => 1,
-        SineType::DownSine => 2,
-    }
-}
+// The code of the bends, for whichever of the two a target is.
+const BENDS: i32 = 129;
 
 // What a cycle over time answers, in numbers: `found` is 1 where it has a value, else 0.
 #[derive(Clone, Copy)]
@@ -324,7 +139,7 @@ fn cycle_told(answer: Result<Option<i32>, Refusal>) -> CycleTold
         Ok(Some(value)) => CycleTold {
             code: 0,
             found: 1,
-            value: value,
+            value,
         },
         Ok(None) => CycleTold {
             code: 0,
@@ -343,8 +158,7 @@ fn cycle_told(answer: Result<Option<i32>, Refusal>) -> CycleTold
 fn cycle_time_calc(cycle: OnCycleTime, timepos: i64) -> CycleTold
     ensures { result ≡ told_of (calc_of cycle timepos) }
 {
-    let answer = cycle.calc(timepos);
-    cycle_told(answer)
+    cycle_told(cycle.calc(timepos))
 }
 
 // ---- new records: a track, a budget, an unused cycle, an option, a sine, a cycle over time
@@ -411,36 +225,28 @@ pub fn dollavir_value_range(low: i64, v: i64, high: i64) -> i64
 pub fn dollavir_set_timepos(track: &mut Track, timepos: i64) -> u32
     ensures { TrackLeft (set_timepos track.old timepos) result track.new }
 {
-    let r = state::set_timepos(*track, timepos);
-    *track = track_answer_track(r);
-    track_answer_code(r)
+    leave_track(state::set_timepos(*track, timepos), track)
 }
 
 // The channel of what is written next; outside 0..15 it is not clamped here. Refuses 4.
 pub fn dollavir_set_channel(track: &mut Track, channel: i32) -> u32
     ensures { TrackLeft (set_channel track.old channel) result track.new }
 {
-    let r = state::set_channel(*track, channel);
-    *track = track_answer_track(r);
-    track_answer_code(r)
+    leave_track(state::set_channel(*track, channel), track)
 }
 
 // How many steps apart a controller's curve is written. Refuses 4.
 pub fn dollavir_set_cc_on_time_freq(track: &mut Track, freq: i32) -> u32
     ensures { TrackLeft (set_cc_freq track.old freq) result track.new }
 {
-    let r = state::set_cc_on_time_freq(*track, freq);
-    *track = track_answer_track(r);
-    track_answer_code(r)
+    leave_track(state::set_cc_on_time_freq(*track, freq), track)
 }
 
 // The same of a bend's curve. Refuses 4.
 pub fn dollavir_set_pb_on_time_freq(track: &mut Track, freq: i32) -> u32
     ensures { TrackLeft (set_pb_freq track.old freq) result track.new }
 {
-    let r = state::set_pb_on_time_freq(*track, freq);
-    *track = track_answer_track(r);
-    track_answer_code(r)
+    leave_track(state::set_pb_on_time_freq(*track, freq), track)
 }
 
 // ---- a target's option
@@ -449,53 +255,43 @@ pub fn dollavir_get_write_opt(track: &Track, target: i32, option: &mut WriteOpti
     ensures { OptionTold (option_for track.now target) result option.new }
 {
     let r = drawing::get_write_opt(*track, target);
-    *option = option_answer_option(r);
-    option_answer_code(r)
+    *option = r.option;
+    r.code
 }
 
 // How many steps later a target's events stand. Refuses 2, 4.
 pub fn dollavir_set_delay(track: &mut Track, target: i32, delay: i32) -> u32
     ensures { TrackLeft (set_delay track.old target delay) result track.new }
 {
-    let r = drawing::set_delay(*track, target, delay);
-    *track = track_answer_track(r);
-    track_answer_code(r)
+    leave_track(drawing::set_delay(*track, target, delay), track)
 }
 
 // How far random moves a target's values; 0 or less is off. Refuses 2, 4.
 pub fn dollavir_set_random(track: &mut Track, target: i32, random: i32) -> u32
     ensures { TrackLeft (set_random track.old target random) result track.new }
 {
-    let r = drawing::set_random(*track, target, random);
-    *track = track_answer_track(r);
-    track_answer_code(r)
+    leave_track(drawing::set_random(*track, target, random), track)
 }
 
 // The range to which a target's values are limited. Refuses 2, 4.
 pub fn dollavir_set_range(track: &mut Track, target: i32, low: i32, high: i32) -> u32
     ensures { TrackLeft (set_range track.old target low high) result track.new }
 {
-    let r = drawing::set_range(*track, target, low, high);
-    *track = track_answer_track(r);
-    track_answer_code(r)
+    leave_track(drawing::set_range(*track, target, low, high), track)
 }
 
 // A target's values are limited no more. Refuses 2, 4.
 pub fn dollavir_clear_range(track: &mut Track, target: i32) -> u32
     ensures { TrackLeft (clear_range track.old target) result track.new }
 {
-    let r = drawing::clear_range(*track, target);
-    *track = track_answer_track(r);
-    track_answer_code(r)
+    leave_track(drawing::clear_range(*track, target), track)
 }
 
 // Whether a target's lists for notes go round, 0 or 1; it reaches the list that is stored too. Refuses 2, 4.
 pub fn dollavir_set_repeat(track: &mut Track, target: i32, on: u32) -> u32
     ensures { TrackLeft (set_repeat track.old target on) result track.new }
 {
-    let r = drawing::set_repeat(*track, target, on);
-    *track = track_answer_track(r);
-    track_answer_code(r)
+    leave_track(drawing::set_repeat(*track, target, on), track)
 }
 
 // ---- writes at the track's time
@@ -516,9 +312,7 @@ pub fn dollavir_write_on_time(
         result count.new budget.new events.new }
 {
     let r = drawing::write_on_time(*track, target, list, *budget, events, *count, store);
-    *count = outcome_count(r);
-    *budget = outcome_budget(r);
-    outcome_code(r)
+    leave_outcome(r, count, budget)
 }
 
 // `write_on_time` of a controller by its number. Refuses 1, 2, 3, 4, 7.
@@ -536,9 +330,7 @@ pub fn dollavir_write_cc_on_time(
         result count.new budget.new events.new }
 {
     let r = drawing::write_cc_on_time(*track, number, list, *budget, events, *count, store);
-    *count = outcome_count(r);
-    *budget = outcome_budget(r);
-    outcome_code(r)
+    leave_outcome(r, count, budget)
 }
 
 // `write_on_time` of the bend. Refuses 1, 3, 4, 7.
@@ -556,9 +348,7 @@ pub fn dollavir_write_pb_on_time(
         result count.new budget.new events.new }
 {
     let r = drawing::write_pb_on_time(*track, big, list, *budget, events, *count, store);
-    *count = outcome_count(r);
-    *budget = outcome_budget(r);
-    outcome_code(r)
+    leave_outcome(r, count, budget)
 }
 
 // Writes a sine at the track's time, `times` turns of `len` steps from `low` to `high`; `shape` is 0 for a full turn,
@@ -584,9 +374,7 @@ pub fn dollavir_write_sine(
     let r = drawing::write_sine(
         *track, target, shape, low, high, len, times, *budget, events, *count, store,
     );
-    *count = outcome_count(r);
-    *budget = outcome_budget(r);
-    outcome_code(r)
+    leave_outcome(r, count, budget)
 }
 
 // ---- what is reserved for a target
@@ -594,9 +382,7 @@ pub fn dollavir_write_sine(
 pub fn dollavir_remove_reserve(track: &mut Track, cycles: &mut [Cycle], target: i32) -> u32
     ensures { Reserved (remove_reserve track.old (length cycles.old) cycles.old target) result track.new cycles.new }
 {
-    let r = loans::remove_reserve(*track, cycles, target);
-    *track = track_answer_track(r);
-    track_answer_code(r)
+    leave_track(loans::remove_reserve(*track, cycles, target), track)
 }
 
 // Reserves a list of numbers for a target, one for each note, in place of what is reserved for it. Answers the track.
@@ -610,9 +396,7 @@ pub fn dollavir_set_on_note(
     ensures { Reserved (set_on_note track.old (length cycles.old) cycles.old target list.now)
         result track.new cycles.new }
 {
-    let r = loans::set_on_note(*track, cycles, target, list);
-    *track = track_answer_track(r);
-    track_answer_code(r)
+    leave_track(loans::set_on_note(*track, cycles, target, list), track)
 }
 
 // Reserves a wave for a target: `list` is triples of a low, a high and a length. Answers the track. Refuses 1, 2, 3,
@@ -628,8 +412,7 @@ pub fn dollavir_set_on_note_wave(
         result track.new cycles.new }
 {
     let r = loans::set_on_note_wave(*track, cycles, target, mode, list);
-    *track = track_answer_track(r);
-    track_answer_code(r)
+    leave_track(r, track)
 }
 
 // Reserves a sine for a target, which it must name. Answers the track. Refuses 1, 2, 4, 6.
@@ -642,9 +425,7 @@ pub fn dollavir_set_on_note_sine(
     ensures { Reserved (set_on_note_sine track.old (length cycles.old) cycles.old target sine)
         result track.new cycles.new }
 {
-    let r = loans::set_on_note_sine(*track, cycles, target, sine);
-    *track = track_answer_track(r);
-    track_answer_code(r)
+    leave_track(loans::set_on_note_sine(*track, cycles, target, sine), track)
 }
 
 // Reserves a cycle of `list` for a target, one number every `len` steps from the track's time on; it comes last in
@@ -661,18 +442,15 @@ pub fn dollavir_set_on_cycle(
         result track.new cycles.new }
 {
     let r = loans::set_on_cycle(*track, cycles, target, len, list);
-    *track = track_answer_track(r);
-    track_answer_code(r)
+    leave_track(r, track)
 }
 
 // The older calls. `remove_reserve` of a controller. Refuses 1, 2, 4.
 pub fn dollavir_remove_cc_on(track: &mut Track, cycles: &mut [Cycle], number: i32) -> u32
     ensures { Reserved (remove_cc_on track.old (length cycles.old) cycles.old number) result track.new cycles.new }
 {
-    let target = drawing::cc_target(number);
-    let r = loans::remove_reserve(*track, cycles, target);
-    *track = track_answer_track(r);
-    track_answer_code(r)
+    let r = loans::remove_reserve(*track, cycles, drawing::cc_target(number));
+    leave_track(r, track)
 }
 
 // `set_on_note` of a controller. Refuses 1, 2, 3, 4, 6.
@@ -685,10 +463,8 @@ pub fn dollavir_set_cc_on_note(
     ensures { Reserved (set_cc_on_note track.old (length cycles.old) cycles.old number list.now)
         result track.new cycles.new }
 {
-    let target = drawing::cc_target(number);
-    let r = loans::set_on_note(*track, cycles, target, list);
-    *track = track_answer_track(r);
-    track_answer_code(r)
+    let r = loans::set_on_note(*track, cycles, drawing::cc_target(number), list);
+    leave_track(r, track)
 }
 
 // `set_on_note_wave` of a controller, the wave used as it is. Refuses 1, 2, 3, 4, 6.
@@ -701,11 +477,8 @@ pub fn dollavir_set_cc_on_note_wave(
     ensures { Reserved (set_cc_on_note_wave track.old (length cycles.old) cycles.old number list.now)
         result track.new cycles.new }
 {
-    let target = drawing::cc_target(number);
-    let mode = as_it_is();
-    let r = loans::set_on_note_wave(*track, cycles, target, mode, list);
-    *track = track_answer_track(r);
-    track_answer_code(r)
+    let r = loans::set_on_note_wave(*track, cycles, drawing::cc_target(number), NORMAL, list);
+    leave_track(r, track)
 }
 
 // `set_on_note_wave` of a bend by its argument, the wave used as it is. Refuses 1, 3, 4, 6.
@@ -718,39 +491,29 @@ pub fn dollavir_set_pb_on_note_wave(
     ensures { Reserved (set_pb_on_note_wave track.old (length cycles.old) cycles.old big list.now)
         result track.new cycles.new }
 {
-    let target = drawing::pb_target(big);
-    let mode = as_it_is();
-    let r = loans::set_on_note_wave(*track, cycles, target, mode, list);
-    *track = track_answer_track(r);
-    track_answer_code(r)
+    let r = loans::set_on_note_wave(*track, cycles, drawing::pb_target(big), NORMAL, list);
+    leave_track(r, track)
 }
 
 // `remove_reserve` of both bends. Refuses 1, 4.
 pub fn dollavir_remove_pb_on_note_wave(track: &mut Track, cycles: &mut [Cycle]) -> u32
     ensures { Reserved (remove_pb_on_note_wave track.old (length cycles.old) cycles.old) result track.new cycles.new }
 {
-    let target = bend();
-    let r = loans::remove_reserve(*track, cycles, target);
-    *track = track_answer_track(r);
-    track_answer_code(r)
+    leave_track(loans::remove_reserve(*track, cycles, BENDS), track)
 }
 
 // No list for notes stays reserved for a controller; what is of another kind stays. Refuses 2, 4.
 pub fn dollavir_remove_cc_on_note(track: &mut Track, number: i32) -> u32
     ensures { TrackLeft (remove_cc_on_note track.old number) result track.new }
 {
-    let r = reserving::remove_cc_on_note(*track, number);
-    *track = track_answer_track(r);
-    track_answer_code(r)
+    leave_track(reserving::remove_cc_on_note(*track, number), track)
 }
 
 // No wave and no sine stays reserved for a controller; what is of another kind stays. Refuses 2, 4.
 pub fn dollavir_remove_cc_on_note_wave(track: &mut Track, number: i32) -> u32
     ensures { TrackLeft (remove_cc_on_note_wave track.old number) result track.new }
 {
-    let r = reserving::remove_cc_on_note_wave(*track, number);
-    *track = track_answer_track(r);
-    track_answer_code(r)
+    leave_track(reserving::remove_cc_on_note_wave(*track, number), track)
 }
 
 // ---- writes at notes and cycles
@@ -770,10 +533,10 @@ pub fn dollavir_write_cc_on_note(
         result count.new budget.new track.new events.new }
 {
     let r = noting::write_cc_on_note(*track, start, *budget, events, *count);
-    *count = noted_count(r);
-    *budget = noted_budget(r);
-    *track = noted_track(r);
-    noted_code(r)
+    *count = r.count;
+    *budget = r.budget;
+    *track = r.track;
+    r.code
 }
 
 // Writes the waves and then the sines that are reserved for the track's notes, over a note from `start` to the
@@ -793,9 +556,7 @@ pub fn dollavir_write_cc_on_note_wave(
         result count.new budget.new events.new }
 {
     let r = waving::write_cc_on_note_wave(*track, start, *budget, events, *count, store);
-    *count = outcome_count(r);
-    *budget = outcome_budget(r);
-    outcome_code(r)
+    leave_outcome(r, count, budget)
 }
 
 // Makes the writes of the track's cycles that are due up to `until`, as `cycling::write_cc_on_cycle` does, over a
@@ -814,8 +575,8 @@ pub fn dollavir_write_cc_on_cycle(
         result count.new budget.new cycles.new events.new }
 {
     let r = lending::write_cc_on_cycle(*track, cycles, until, budget, events, *count);
-    *count = answer_count(r);
-    answer_code(r)
+    *count = r.count;
+    r.code
 }
 
 // ---- a controller's value
@@ -832,8 +593,8 @@ pub fn dollavir_current_cc_value(
     ensures { CcTold (cc_of_track (length store.now) track.now number events.now count) result value.new }
 {
     let r = track::current_cc_value(*track, number, events, count, store);
-    *value = cc_value_value(r);
-    cc_value_code(r)
+    *value = r.value;
+    r.code
 }
 
 // ---- the event list
@@ -851,8 +612,7 @@ pub fn dollavir_remove_pitch_bend_in_range(
         result count.new events.new }
 {
     let r = eventlist::remove_pitch_bend_in_range(events, *count, start, end, store);
-    *count = r.count;
-    r.code
+    leave_count(r, count)
 }
 
 // Sorts the list by time; events of one time keep their order. Answers 0, or refuses 1, 4; then the list is left as
@@ -877,9 +637,7 @@ pub fn dollavir_split_note_off(
         (split_left (length store.now) events.now count out.old 0)
         result out_count.new out.new }
 {
-    let r = notes::split_note_off(events, count, out, store);
-    *out_count = r.count;
-    r.code
+    leave_count(notes::split_note_off(events, count, out, store), out_count)
 }
 
 // Puts after each note of the list its end, and answers the new count. Refuses 1, 4, 7; then the list is left as it
@@ -889,9 +647,7 @@ pub fn dollavir_normalize(events: &mut [i64], count: &mut usize, store: &[u8]) -
         (split_left (length store.now) events.old count.old events.old count.old)
         result count.new events.new }
 {
-    let r = notes::normalize(events, *count, store);
-    *count = r.count;
-    r.code
+    leave_count(notes::normalize(events, *count, store), count)
 }
 
 // Cuts off what is before `cut`: the events that are kept count their time from it, and after them stand, at time 0,
@@ -902,9 +658,7 @@ pub fn dollavir_play_from(events: &mut [i64], count: &mut usize, cut: i64, store
         (cut_left (length store.now) events.old count.old (plain cut))
         result count.new events.new }
 {
-    let r = cutting::play_from(events, *count, cut, store);
-    *count = r.count;
-    r.code
+    leave_count(cutting::play_from(events, *count, cut, store), count)
 }
 
 // The cut with its bends: those from `cut` on are kept, and what is folded stands first, the bend too. Of each
@@ -917,9 +671,7 @@ pub fn dollavir_full_cut(events: &mut [i64], count: &mut usize, cut: i64, store:
         (cut_left (length store.now) events.old count.old (whole cut))
         result count.new events.new }
 {
-    let r = cutting::full_cut(events, *count, cut, store);
-    *count = r.count;
-    r.code
+    leave_count(cutting::full_cut(events, *count, cut, store), count)
 }
 
 // ---- a file's track chunk
@@ -955,9 +707,7 @@ pub fn dollavir_read_chunk(chunk: &[u8], events: &mut [i64], count: &mut usize) 
         (read_left chunk.now events.old count.old)
         result count.new events.new }
 {
-    let r = reader::read_chunk(chunk, events, *count);
-    *count = r.count;
-    r.code
+    leave_count(reader::read_chunk(chunk, events, *count), count)
 }
 
 // ---- the rehearsal player's profile
@@ -982,9 +732,7 @@ pub fn dollavir_fit_profile(events: &mut [i64], count: &mut usize, store: &[u8])
         (fit_left (length store.now) events.old count.old)
         result count.new events.new }
 {
-    let r = profile::fit_profile(events, *count, store);
-    *count = r.count;
-    r.code
+    leave_count(profile::fit_profile(events, *count, store), count)
 }
 
 // ---- the track's parameters and layers
@@ -993,50 +741,35 @@ pub fn dollavir_fit_profile(events: &mut [i64], count: &mut usize, store: &[u8])
 pub fn dollavir_calc_v_on_time(track: &mut Track, def: i32, value: &mut i32) -> u32
     ensures { ValueLeft (value_on_time velocity track.old def) result value.new track.new }
 {
-    let r = playing::calc_v_on_time(*track, def);
-    *value = track_value_value(r);
-    *track = track_value_track(r);
-    track_value_code(r)
+    leave_value(playing::calc_v_on_time(*track, def), value, track)
 }
 
 // The same of a note's timing. Leaves it in `value`, 0 where it refuses. Refuses 4.
 pub fn dollavir_calc_t_on_time(track: &mut Track, def: i32, value: &mut i32) -> u32
     ensures { ValueLeft (value_on_time timing track.old def) result value.new track.new }
 {
-    let r = playing::calc_t_on_time(*track, def);
-    *value = track_value_value(r);
-    *track = track_value_track(r);
-    track_value_code(r)
+    leave_value(playing::calc_t_on_time(*track, def), value, track)
 }
 
 // The same of a note's gate. Leaves it in `value`, 0 where it refuses. Refuses 4.
 pub fn dollavir_calc_qlen_on_time(track: &mut Track, def: i32, value: &mut i32) -> u32
     ensures { ValueLeft (value_on_time gate track.old def) result value.new track.new }
 {
-    let r = playing::calc_qlen_on_time(*track, def);
-    *value = track_value_value(r);
-    *track = track_value_track(r);
-    track_value_code(r)
+    leave_value(playing::calc_qlen_on_time(*track, def), value, track)
 }
 
 // The same of a note's octave. Leaves it in `value`, 0 where it refuses. Refuses 4.
 pub fn dollavir_calc_o_on_time(track: &mut Track, def: i32, value: &mut i32) -> u32
     ensures { ValueLeft (value_on_time octave track.old def) result value.new track.new }
 {
-    let r = playing::calc_o_on_time(*track, def);
-    *value = track_value_value(r);
-    *track = track_value_track(r);
-    track_value_code(r)
+    leave_value(playing::calc_o_on_time(*track, def), value, track)
 }
 
 // The same of a note's length. Leaves it in `value`, 0 where it refuses. Refuses 4.
 pub fn dollavir_calc_l_on_time(track: &mut Track, def: i32, value: &mut i32) -> u32
     ensures { ValueLeft (value_on_time span track.old def) result value.new track.new }
 {
-    let r = playing::calc_l_on_time(*track, def);
-    *value = track_value_value(r);
-    *track = track_value_track(r);
-    track_value_code(r)
+    leave_value(playing::calc_l_on_time(*track, def), value, track)
 }
 
 // A note's velocity, the next of the list that is reserved, or the default; a list that is spent goes. While the list
@@ -1044,20 +777,14 @@ pub fn dollavir_calc_l_on_time(track: &mut Track, def: i32, value: &mut i32) -> 
 pub fn dollavir_calc_v_on_note(track: &mut Track, def: i32, value: &mut i32) -> u32
     ensures { ValueLeft (value_on_note velocity track.old def) result value.new track.new }
 {
-    let r = playing::calc_v_on_note(*track, def);
-    *value = track_value_value(r);
-    *track = track_value_track(r);
-    track_value_code(r)
+    leave_value(playing::calc_v_on_note(*track, def), value, track)
 }
 
 // The same of a note's timing. Leaves it in `value`, 0 where it refuses. Refuses 4.
 pub fn dollavir_calc_t_on_note(track: &mut Track, def: i32, value: &mut i32) -> u32
     ensures { ValueLeft (value_on_note timing track.old def) result value.new track.new }
 {
-    let r = playing::calc_t_on_note(*track, def);
-    *value = track_value_value(r);
-    *track = track_value_track(r);
-    track_value_code(r)
+    leave_value(playing::calc_t_on_note(*track, def), value, track)
 }
 
 // The same of a note's gate, which is no longer one in steps then. Leaves it in `value`, 0 where it refuses. Refuses
@@ -1065,48 +792,35 @@ pub fn dollavir_calc_t_on_note(track: &mut Track, def: i32, value: &mut i32) -> 
 pub fn dollavir_calc_qlen_on_note(track: &mut Track, def: i32, value: &mut i32) -> u32
     ensures { ValueLeft (value_on_note gate track.old def) result value.new track.new }
 {
-    let r = playing::calc_qlen_on_note(*track, def);
-    *value = track_value_value(r);
-    *track = track_value_track(r);
-    track_value_code(r)
+    leave_value(playing::calc_qlen_on_note(*track, def), value, track)
 }
 
 // The same of a note's octave. Leaves it in `value`, 0 where it refuses. Refuses 4.
 pub fn dollavir_calc_o_on_note(track: &mut Track, def: i32, value: &mut i32) -> u32
     ensures { ValueLeft (value_on_note octave track.old def) result value.new track.new }
 {
-    let r = playing::calc_o_on_note(*track, def);
-    *value = track_value_value(r);
-    *track = track_value_track(r);
-    track_value_code(r)
+    leave_value(playing::calc_o_on_note(*track, def), value, track)
 }
 
 // The same of a note's length, which the track does not keep. Leaves it in `value`, 0 where it refuses. Refuses 4.
 pub fn dollavir_calc_l_on_note(track: &mut Track, def: i32, value: &mut i32) -> u32
     ensures { ValueLeft (value_on_note span track.old def) result value.new track.new }
 {
-    let r = playing::calc_l_on_note(*track, def);
-    *value = track_value_value(r);
-    *track = track_value_track(r);
-    track_value_code(r)
+    leave_value(playing::calc_l_on_note(*track, def), value, track)
 }
 
 // A layer's value; nothing stays reserved for it. Refuses 4, 5.
 pub fn dollavir_set_v_sub(track: &mut Track, index: usize, velocity: i32) -> u32
     ensures { TrackLeft (on_layers track.old (set_v_sub track.old.layers index velocity)) result track.new }
 {
-    let r = playing::set_v_sub(*track, index, velocity);
-    *track = track_answer_track(r);
-    track_answer_code(r)
+    leave_track(playing::set_v_sub(*track, index, velocity), track)
 }
 
 // A layer's random width. Refuses 4, 5.
 pub fn dollavir_set_v_sub_random(track: &mut Track, index: usize, random: i32) -> u32
     ensures { TrackLeft (on_layers track.old (set_v_sub_random track.old.layers index random)) result track.new }
 {
-    let r = playing::set_v_sub_random(*track, index, random);
-    *track = track_answer_track(r);
-    track_answer_code(r)
+    leave_track(playing::set_v_sub_random(*track, index, random), track)
 }
 
 // Reserves a curve for a layer, from the track's time and the velocity parameter's delay on. Refuses 3, 4, 5.
@@ -1114,9 +828,7 @@ pub fn dollavir_set_v_sub_on_time(track: &mut Track, index: usize, values: &[i32
     ensures { TrackLeft (on_layers track.old (set_v_sub_on_time track.old.layers index track.old.timepos track.old.v.delay values.now))
         result track.new }
 {
-    let r = playing::set_v_sub_on_time(*track, index, values);
-    *track = track_answer_track(r);
-    track_answer_code(r)
+    leave_track(playing::set_v_sub_on_time(*track, index, values), track)
 }
 
 // Reserves a cycle for a layer, its length and then its values; nothing, where there is no value. Refuses 3, 4, 5.
@@ -1124,9 +836,7 @@ pub fn dollavir_set_v_sub_on_cycle(track: &mut Track, index: usize, args: &[i32]
     ensures { TrackLeft (on_layers track.old (set_v_sub_on_cycle track.old.layers index track.old.timepos track.old.v.delay args.now))
         result track.new }
 {
-    let r = playing::set_v_sub_on_cycle(*track, index, args);
-    *track = track_answer_track(r);
-    track_answer_code(r)
+    leave_track(playing::set_v_sub_on_cycle(*track, index, args), track)
 }
 
 // Reserves a value of a layer for each of the next notes, round and round where the velocity parameter's repeat
@@ -1135,9 +845,7 @@ pub fn dollavir_set_v_sub_on_note(track: &mut Track, index: usize, values: &[i32
     ensures { TrackLeft (on_layers track.old (set_v_sub_on_note track.old.layers index track.old.v.repeat values.now))
         result track.new }
 {
-    let r = playing::set_v_sub_on_note(*track, index, values);
-    *track = track_answer_track(r);
-    track_answer_code(r)
+    leave_track(playing::set_v_sub_on_note(*track, index, values), track)
 }
 
 // A note's velocity at the track's time: the given one and what every layer adds to it. The layers come back
@@ -1147,9 +855,9 @@ pub fn dollavir_apply_v_sub(track: &mut Track, velocity: i32, value: &mut i64) -
         result value.new track.new }
 {
     let r = playing::apply_v_sub(*track, velocity);
-    *value = track_velocity_value(r);
-    *track = track_velocity_track(r);
-    track_velocity_code(r)
+    *value = r.value;
+    *track = r.track;
+    r.code
 }
 
 // The setters of a parameter, `which` by its number; any other number refuses 4. Reserves a curve, low, high and
@@ -1158,9 +866,7 @@ pub fn dollavir_set_param_on_time(track: &mut Track, which: u32, values: &[i32])
     ensures { TrackLeft (on_param which track.old (set_on_time (param_of which track.old) track.old.timepos values.now))
         result track.new }
 {
-    let r = playing::set_param_on_time(*track, which, values);
-    *track = track_answer_track(r);
-    track_answer_code(r)
+    leave_track(playing::set_param_on_time(*track, which, values), track)
 }
 
 // Reserves a cycle, its length and then its values, from there on; nothing, where there is no value. Refuses 3, 4.
@@ -1168,90 +874,70 @@ pub fn dollavir_set_param_on_cycle(track: &mut Track, which: u32, args: &[i32]) 
     ensures { TrackLeft (on_param which track.old (params_set_on_cycle (param_of which track.old) track.old.timepos args.now))
         result track.new }
 {
-    let r = playing::set_param_on_cycle(*track, which, args);
-    *track = track_answer_track(r);
-    track_answer_code(r)
+    leave_track(playing::set_param_on_cycle(*track, which, args), track)
 }
 
 // Reserves a value for each of the next notes, round and round where repeat stands. Refuses 3, 4.
 pub fn dollavir_set_param_on_note(track: &mut Track, which: u32, values: &[i32]) -> u32
     ensures { TrackLeft (on_param which track.old (params_set_on_note (param_of which track.old) values.now)) result track.new }
 {
-    let r = playing::set_param_on_note(*track, which, values);
-    *track = track_answer_track(r);
-    track_answer_code(r)
+    leave_track(playing::set_param_on_note(*track, which, values), track)
 }
 
 // Nothing stays reserved. Refuses 4.
 pub fn dollavir_clear_param_reserve(track: &mut Track, which: u32) -> u32
     ensures { TrackLeft (on_param which track.old (clear_reserve (param_of which track.old))) result track.new }
 {
-    let r = playing::clear_param_reserve(*track, which);
-    *track = track_answer_track(r);
-    track_answer_code(r)
+    leave_track(playing::clear_param_reserve(*track, which), track)
 }
 
 // The random width of a value. Refuses 4.
 pub fn dollavir_set_param_random(track: &mut Track, which: u32, random: i32) -> u32
     ensures { TrackLeft (on_param which track.old (params_set_random (param_of which track.old) random)) result track.new }
 {
-    let r = playing::set_param_random(*track, which, random);
-    *track = track_answer_track(r);
-    track_answer_code(r)
+    leave_track(playing::set_param_random(*track, which, random), track)
 }
 
 // The range of a value. Refuses 4.
 pub fn dollavir_set_param_range(track: &mut Track, which: u32, low: i32, high: i32) -> u32
     ensures { TrackLeft (on_param which track.old (params_set_range (param_of which track.old) low high)) result track.new }
 {
-    let r = playing::set_param_range(*track, which, low, high);
-    *track = track_answer_track(r);
-    track_answer_code(r)
+    leave_track(playing::set_param_range(*track, which, low, high), track)
 }
 
 // No range. Refuses 4.
 pub fn dollavir_clear_param_range(track: &mut Track, which: u32) -> u32
     ensures { TrackLeft (on_param which track.old (params_clear_range (param_of which track.old))) result track.new }
 {
-    let r = playing::clear_param_range(*track, which);
-    *track = track_answer_track(r);
-    track_answer_code(r)
+    leave_track(playing::clear_param_range(*track, which), track)
 }
 
 // The delay of what is reserved from now on. Refuses 4.
 pub fn dollavir_set_param_delay(track: &mut Track, which: u32, delay: i32) -> u32
     ensures { TrackLeft (on_param which track.old (params_set_delay (param_of which track.old) delay)) result track.new }
 {
-    let r = playing::set_param_delay(*track, which, delay);
-    *track = track_answer_track(r);
-    track_answer_code(r)
+    leave_track(playing::set_param_delay(*track, which, delay), track)
 }
 
 // The maximum of a value. Refuses 4.
 pub fn dollavir_set_param_max(track: &mut Track, which: u32, max: i32) -> u32
     ensures { TrackLeft (on_param which track.old (set_max (param_of which track.old) max)) result track.new }
 {
-    let r = playing::set_param_max(*track, which, max);
-    *track = track_answer_track(r);
-    track_answer_code(r)
+    leave_track(playing::set_param_max(*track, which, max), track)
 }
 
 // No maximum. Refuses 4.
 pub fn dollavir_clear_param_max(track: &mut Track, which: u32) -> u32
     ensures { TrackLeft (on_param which track.old (clear_max (param_of which track.old))) result track.new }
 {
-    let r = playing::clear_param_max(*track, which);
-    *track = track_answer_track(r);
-    track_answer_code(r)
+    leave_track(playing::clear_param_max(*track, which), track)
 }
 
 // Whether a list that is reserved from now on goes round: 0 or 1. Refuses 4.
 pub fn dollavir_set_param_repeat(track: &mut Track, which: u32, repeat: u32) -> u32
     ensures { TrackLeft (on_param which track.old (params_set_repeat (param_of which track.old) repeat)) result track.new }
 {
-    let r = playing::set_param_repeat(*track, which, repeat);
-    *track = track_answer_track(r);
-    track_answer_code(r)
+    leave_track(playing::set_param_repeat(*track, which, repeat), track)
 }
 
 // ---- events
@@ -1323,9 +1009,9 @@ pub fn dollavir_event_sysex_raw(time: i64, offset: i64, len: i64, store: &[u8]) 
 pub fn dollavir_event_bytes(event: &Event, store: &[u8], bytes: &mut usize) -> u32
     ensures { SizeTold (size_of (length store.now) event.now) result bytes.new }
 {
-    let r = Event::estimated_midi_bytes(*event, store);
-    *bytes = size_bytes(r);
-    size_code(r)
+    let r = event.estimated_midi_bytes(store);
+    *bytes = r.bytes;
+    r.code
 }
 
 // ---- a note parameter of its own
@@ -1340,27 +1026,21 @@ pub fn dollavir_param_new() -> NoteParam
 pub fn dollavir_param_clear_reserve(param: &mut NoteParam) -> u32
     ensures { ParamLeft (clear_reserve param.old) result param.new }
 {
-    let r = NoteParam::clear_reserve(*param);
-    *param = param_answer_param(r);
-    param_answer_code(r)
+    leave_param(param.clear_reserve(), param)
 }
 
 // 1 where something is reserved, else 0. Leaves it in `value`, 0 where it refuses. Refuses 4.
 pub fn dollavir_param_has_reserve(param: &NoteParam, value: &mut i32) -> u32
     ensures { ParamTold (has_reserve param.now) result value.new }
 {
-    let r = NoteParam::has_reserve(*param);
-    *value = told_value(r);
-    told_code(r)
+    leave_told(param.has_reserve(), value)
 }
 
 // Reserves a curve, low, high and length by threes, from `timepos` and the delay on. Refuses 3, 4.
 pub fn dollavir_param_set_on_time(param: &mut NoteParam, timepos: i64, values: &[i32]) -> u32
     ensures { ParamLeft (set_on_time param.old timepos values.now) result param.new }
 {
-    let r = NoteParam::set_on_time(*param, timepos, values);
-    *param = param_answer_param(r);
-    param_answer_code(r)
+    leave_param(param.set_on_time(timepos, values), param)
 }
 
 // Reserves a cycle, its length and then its values, from `timepos` and the delay on; nothing, where there is no
@@ -1368,18 +1048,14 @@ pub fn dollavir_param_set_on_time(param: &mut NoteParam, timepos: i64, values: &
 pub fn dollavir_param_set_on_cycle(param: &mut NoteParam, timepos: i64, args: &[i32]) -> u32
     ensures { ParamLeft (params_set_on_cycle param.old timepos args.now) result param.new }
 {
-    let r = NoteParam::set_on_cycle(*param, timepos, args);
-    *param = param_answer_param(r);
-    param_answer_code(r)
+    leave_param(param.set_on_cycle(timepos, args), param)
 }
 
 // Reserves a value for each of the next notes, round and round where repeat stands. Refuses 3, 4.
 pub fn dollavir_param_set_on_note(param: &mut NoteParam, values: &[i32]) -> u32
     ensures { ParamLeft (params_set_on_note param.old values.now) result param.new }
 {
-    let r = NoteParam::set_on_note(*param, values);
-    *param = param_answer_param(r);
-    param_answer_code(r)
+    leave_param(param.set_on_note(values), param)
 }
 
 // The value of the reserved curve or cycle at `timepos`, or the default; a curve that is over goes. Leaves it in
@@ -1392,10 +1068,7 @@ pub fn dollavir_param_calc_on_time(
 ) -> u32
     ensures { ParamTaken (calc_on_time param.old timepos def) result value.new param.new }
 {
-    let r = NoteParam::calc_on_time(*param, timepos, def);
-    *value = param_value_value(r);
-    *param = param_value_param(r);
-    param_value_code(r)
+    leave_param_value(param.calc_on_time(timepos, def), value, param)
 }
 
 // The next value of the reserved list, or the default; a list that is spent goes. Leaves it in `value`, 0 where it
@@ -1403,10 +1076,7 @@ pub fn dollavir_param_calc_on_time(
 pub fn dollavir_param_calc_on_note(param: &mut NoteParam, def: i32, value: &mut i32) -> u32
     ensures { ParamTaken (calc_on_note param.old def) result value.new param.new }
 {
-    let r = NoteParam::calc_on_note(*param, def);
-    *value = param_value_value(r);
-    *param = param_value_param(r);
-    param_value_code(r)
+    leave_param_value(param.calc_on_note(def), value, param)
 }
 
 // A value limited by the range and then by the maximum, where there is one. Leaves it in `limited`, 0 where it
@@ -1414,81 +1084,63 @@ pub fn dollavir_param_calc_on_note(param: &mut NoteParam, def: i32, value: &mut 
 pub fn dollavir_param_apply_limit(param: &NoteParam, value: i32, limited: &mut i32) -> u32
     ensures { ParamTold (apply_limit param.now value) result limited.new }
 {
-    let r = NoteParam::apply_limit(*param, value);
-    *limited = told_value(r);
-    told_code(r)
+    leave_told(param.apply_limit(value), limited)
 }
 
 // The maximum, or the default where there is none. Leaves it in `value`, 0 where it refuses. Refuses 4.
 pub fn dollavir_param_max_or(param: &NoteParam, def: i32, value: &mut i32) -> u32
     ensures { ParamTold (maximum_or param.now def) result value.new }
 {
-    let r = NoteParam::max_or(*param, def);
-    *value = told_value(r);
-    told_code(r)
+    leave_told(param.max_or(def), value)
 }
 
 // The random width of a value. Refuses 4.
 pub fn dollavir_param_set_random(param: &mut NoteParam, random: i32) -> u32
     ensures { ParamLeft (params_set_random param.old random) result param.new }
 {
-    let r = NoteParam::set_random(*param, random);
-    *param = param_answer_param(r);
-    param_answer_code(r)
+    leave_param(param.set_random(random), param)
 }
 
 // The range of a value. Refuses 4.
 pub fn dollavir_param_set_range(param: &mut NoteParam, low: i32, high: i32) -> u32
     ensures { ParamLeft (params_set_range param.old low high) result param.new }
 {
-    let r = NoteParam::set_range(*param, low, high);
-    *param = param_answer_param(r);
-    param_answer_code(r)
+    leave_param(param.set_range(low, high), param)
 }
 
 // No range. Refuses 4.
 pub fn dollavir_param_clear_range(param: &mut NoteParam) -> u32
     ensures { ParamLeft (params_clear_range param.old) result param.new }
 {
-    let r = NoteParam::clear_range(*param);
-    *param = param_answer_param(r);
-    param_answer_code(r)
+    leave_param(param.clear_range(), param)
 }
 
 // The delay of what is reserved from now on. Refuses 4.
 pub fn dollavir_param_set_delay(param: &mut NoteParam, delay: i32) -> u32
     ensures { ParamLeft (params_set_delay param.old delay) result param.new }
 {
-    let r = NoteParam::set_delay(*param, delay);
-    *param = param_answer_param(r);
-    param_answer_code(r)
+    leave_param(param.set_delay(delay), param)
 }
 
 // The maximum of a value. Refuses 4.
 pub fn dollavir_param_set_max(param: &mut NoteParam, max: i32) -> u32
     ensures { ParamLeft (set_max param.old max) result param.new }
 {
-    let r = NoteParam::set_max(*param, max);
-    *param = param_answer_param(r);
-    param_answer_code(r)
+    leave_param(param.set_max(max), param)
 }
 
 // No maximum. Refuses 4.
 pub fn dollavir_param_clear_max(param: &mut NoteParam) -> u32
     ensures { ParamLeft (clear_max param.old) result param.new }
 {
-    let r = NoteParam::clear_max(*param);
-    *param = param_answer_param(r);
-    param_answer_code(r)
+    leave_param(param.clear_max(), param)
 }
 
 // Whether a list that is reserved from now on goes round: 0 or 1. Refuses 4.
 pub fn dollavir_param_set_repeat(param: &mut NoteParam, repeat: u32) -> u32
     ensures { ParamLeft (params_set_repeat param.old repeat) result param.new }
 {
-    let r = NoteParam::set_repeat(*param, repeat);
-    *param = param_answer_param(r);
-    param_answer_code(r)
+    leave_param(param.set_repeat(repeat), param)
 }
 
 // ---- velocity layers of their own
@@ -1503,18 +1155,14 @@ pub fn dollavir_layers_new() -> Layers
 pub fn dollavir_layers_set_v_sub(layers: &mut Layers, index: usize, velocity: i32) -> u32
     ensures { LayersLeft (set_v_sub layers.old index velocity) result layers.new }
 {
-    let r = Layers::set_v_sub(*layers, index, velocity);
-    *layers = layers_answer_layers(r);
-    layers_answer_code(r)
+    leave_layers(layers.set_v_sub(index, velocity), layers)
 }
 
 // A layer's random width. Refuses 4, 5.
 pub fn dollavir_layers_set_v_sub_random(layers: &mut Layers, index: usize, random: i32) -> u32
     ensures { LayersLeft (set_v_sub_random layers.old index random) result layers.new }
 {
-    let r = Layers::set_v_sub_random(*layers, index, random);
-    *layers = layers_answer_layers(r);
-    layers_answer_code(r)
+    leave_layers(layers.set_v_sub_random(index, random), layers)
 }
 
 // Reserves a curve for a layer, from `timepos` and the velocity parameter's delay on. Refuses 3, 4, 5.
@@ -1527,9 +1175,8 @@ pub fn dollavir_layers_set_v_sub_on_time(
 ) -> u32
     ensures { LayersLeft (set_v_sub_on_time layers.old index timepos delay values.now) result layers.new }
 {
-    let r = Layers::set_v_sub_on_time(*layers, index, timepos, delay, values);
-    *layers = layers_answer_layers(r);
-    layers_answer_code(r)
+    let r = layers.set_v_sub_on_time(index, timepos, delay, values);
+    leave_layers(r, layers)
 }
 
 // Reserves a cycle for a layer, its length and then its values, from `timepos` and the velocity parameter's delay on;
@@ -1543,9 +1190,8 @@ pub fn dollavir_layers_set_v_sub_on_cycle(
 ) -> u32
     ensures { LayersLeft (set_v_sub_on_cycle layers.old index timepos delay args.now) result layers.new }
 {
-    let r = Layers::set_v_sub_on_cycle(*layers, index, timepos, delay, args);
-    *layers = layers_answer_layers(r);
-    layers_answer_code(r)
+    let r = layers.set_v_sub_on_cycle(index, timepos, delay, args);
+    leave_layers(r, layers)
 }
 
 // Reserves a value of a layer for each of the next notes, round and round where the velocity parameter's repeat
@@ -1558,9 +1204,7 @@ pub fn dollavir_layers_set_v_sub_on_note(
 ) -> u32
     ensures { LayersLeft (set_v_sub_on_note layers.old index repeat values.now) result layers.new }
 {
-    let r = Layers::set_v_sub_on_note(*layers, index, repeat, values);
-    *layers = layers_answer_layers(r);
-    layers_answer_code(r)
+    leave_layers(layers.set_v_sub_on_note(index, repeat, values), layers)
 }
 
 // A note's velocity at `timepos`: the given one and what every layer adds to it. The layers come back advanced.
@@ -1573,10 +1217,10 @@ pub fn dollavir_layers_apply_v_sub(
 ) -> u32
     ensures { LayersSum (apply_v_sub layers.old timepos velocity) result value.new layers.new }
 {
-    let r = Layers::apply_v_sub(*layers, timepos, velocity);
-    *value = velocity_value(r);
-    *layers = velocity_layers(r);
-    velocity_code(r)
+    let r = layers.apply_v_sub(timepos, velocity);
+    *value = r.value;
+    *layers = r.layers;
+    r.code
 }
 
 // ---- a cycle over time of its own
@@ -1591,9 +1235,9 @@ pub fn dollavir_cycle_time_calc(
     ensures { TimeTold (told_of (calc_of cycle.now timepos)) result found.new value.new }
 {
     let r = cycle_time_calc(*cycle, timepos);
-    *found = cycle_told_found(r);
-    *value = cycle_told_value(r);
-    cycle_told_code(r)
+    *found = r.found;
+    *value = r.value;
+    r.code
 }
 
 // ---- the kind of a sine
@@ -1602,7 +1246,5 @@ pub fn dollavir_cycle_time_calc(
 pub fn dollavir_sine_type(v: i32) -> u32
     ensures { result ≡ number_of (sine_type v) }
 {
-    let wide = widened(v);
-    let kind = SineType::from_i(wide);
-    shape_of(kind)
+    SineType::from_i(i64::from(v)) as u32
 }

@@ -19,9 +19,7 @@ ghost use Rattle.cutting.specs.Passes.{sound, Holds, lasts_of, noted, stored, va
 ghost use Rattle.cutting.specs.ByTime.{replacing, stood, none_stands, last_in, earliest, dated};
 
 use eventlist::{Taken, WIDTH, append, clear_from, list_ok, read_event, records_ok, write_event};
-use events::{
-    CONTROL_CHANGE, Event, Kind, PITCH_BEND, VOICE, cc_event, event_ok, voice_event, zero_event,
-};
+use events::{CONTROL_CHANGE, Event, Kind, cc_event, event_ok, voice_event, zero_event};
 use numbers::{is_channel, is_controller, is_event_time, is_time};
 use sorting::rotate_events;
 
@@ -70,7 +68,7 @@ fn value_in(events: &[i64], count: usize, a: Asked) -> i64
 #[repr(C)]
 #[derive(Clone, Copy)]
 pub struct CcValue {
-    pub code: u32,
+    pub code: u32, // a number beside what it goes with: C reads this record
     pub value: i64,
 }
 
@@ -192,26 +190,20 @@ fn note(last: Last, e: Event, c: Cut) -> Last
     if c.at <= e.time {
         return last;
     }
-    let bend = last.bend;
-    let kind = e.kind;
-    match kind {
-        VOICE => Last {
+    match Kind::try_from(e.kind) {
+        Ok(Kind::Voice) => Last {
             program: e.v1,
             channel: e.channel,
-            bent: last.bent,
-            bend: bend,
+            ..last
         },
-        CONTROL_CHANGE => Last {
-            program: last.program,
+        Ok(Kind::ControlChange) => Last {
             channel: e.channel,
-            bent: last.bent,
-            bend: bend,
+            ..last
         },
-        PITCH_BEND => Last {
-            program: last.program,
-            channel: last.channel,
+        Ok(Kind::PitchBend) => Last {
             bent: true,
             bend: e,
+            ..last
         },
         _ => last,
     }
@@ -222,16 +214,8 @@ fn note_value(values: &mut [i64; 128], e: Event, c: Cut)
     requires { ok_numbered e ≡ true }
     ensures { values.new ≡ valued c.at values.old e }
 {
-    if e.time < c.at {
-        let kind = e.kind;
-        match kind {
-            CONTROL_CHANGE => {
-                let k = e.v1 as usize;
-                let v = e.v2;
-                values[k] = v;
-            }
-            _ => {}
-        }
+    if is_control(e, c) {
+        values[e.v1 as usize] = e.v2;
     }
 }
 
@@ -255,7 +239,8 @@ fn remember(events: &[i64], count: usize, c: Cut, values: &mut [i64; 128]) -> La
     last
 }
 
-// The latest so far of some events; where none was found, `event` says what there is then.
+// The latest so far of some events. An Option would say less: where none was found, `event` says what there is then, the program
+// -1 or the channel 0.
 #[derive(Clone, Copy)]
 pub struct Latest {
     pub found: bool,
@@ -309,31 +294,20 @@ fn stand(s: Standing, e: Event, c: Cut) -> Standing
     if c.at <= e.time {
         return s;
     }
-    let program = s.program;
-    let channel = s.channel;
-    let bend = s.bend;
-    let p = program.event;
-    let h = channel.event;
-    let b = bend.event;
-    let programmed = p.time;
-    let told = h.time;
-    let bent = b.time;
-    let kind = e.kind;
-    match kind {
-        VOICE => Standing {
-            program: later(program, e, programmed),
-            channel: later(channel, e, told),
-            bend: bend,
+    let told = s.channel.event.time;
+    match Kind::try_from(e.kind) {
+        Ok(Kind::Voice) => Standing {
+            program: later(s.program, e, s.program.event.time),
+            channel: later(s.channel, e, told),
+            ..s
         },
-        CONTROL_CHANGE => Standing {
-            program: program,
-            channel: later(channel, e, told),
-            bend: bend,
+        Ok(Kind::ControlChange) => Standing {
+            channel: later(s.channel, e, told),
+            ..s
         },
-        PITCH_BEND => Standing {
-            program: program,
-            channel: channel,
-            bend: later(bend, e, bent),
+        Ok(Kind::PitchBend) => Standing {
+            bend: later(s.bend, e, s.bend.event.time),
+            ..s
         },
         _ => s,
     }
@@ -343,17 +317,11 @@ fn stand(s: Standing, e: Event, c: Cut) -> Standing
 fn last_of(s: Standing) -> Last
     ensures { result ≡ last_in s }
 {
-    let program = s.program;
-    let channel = s.channel;
-    let bend = s.bend;
-    let p = program.event;
-    let told = channel.event;
-    let last = bend.event;
     Last {
-        program: p.v1,
-        channel: told.channel,
-        bent: bend.found,
-        bend: last,
+        program: s.program.event.v1,
+        channel: s.channel.event.channel,
+        bent: s.bend.found,
+        bend: s.bend.event,
     }
 }
 
@@ -361,11 +329,7 @@ fn last_of(s: Standing) -> Last
 fn is_control(e: Event, c: Cut) -> bool
     ensures { result ≡ folds control_change c.at e }
 {
-    let kind = e.kind;
-    match kind {
-        CONTROL_CHANGE => e.time < c.at,
-        _ => false,
-    }
+    (e.kind == CONTROL_CHANGE) & (e.time < c.at)
 }
 
 // No event that may be stored is before it.
@@ -379,17 +343,16 @@ fn note_latest(values: &mut [i64; 128], times: &mut [i64; 128], e: Event, c: Cut
 {
     if is_control(e, c) {
         let k = e.v1 as usize;
-        let t = e.time;
-        let v = e.v2;
-        if times[k] <= t {
-            times[k] = t;
-            values[k] = v;
+        if times[k] <= e.time {
+            times[k] = e.time;
+            values[k] = e.v2;
         }
     }
 }
 
 // Remembers what stands before the cut, the latest: each controller's value in the table, which is all unset, the rest in
-// the answer. Of the times that count the other table, at first EARLIEST everywhere, keeps account.
+// the answer. Of the times that count the other table, at first EARLIEST everywhere, keeps account: it stands apart, since the
+// values alone go on to what is put in, and the other cut remembers no times.
 fn remember_latest(
     events: &[i64],
     count: usize,

@@ -17,7 +17,7 @@ use state::{Track, cycles_of, lent_alone, track_ok};
 #[repr(C)]
 #[derive(Clone, Copy)]
 pub struct Cycled {
-    pub code: u32,
+    pub code: u32, // a number beside what it goes with: C reads this record
     pub count: usize,
     pub budget: Budget,
     pub cycles: [Cycle; PLACES],

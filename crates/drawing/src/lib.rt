@@ -29,7 +29,7 @@ use writing::{Outcome, at_least_one};
 #[repr(C)]
 #[derive(Clone, Copy)]
 pub struct OptionAnswer {
-    pub code: u32,
+    pub code: u32, // a number beside what it goes with: C reads this record
     pub option: WriteOption,
 }
 

@@ -268,7 +268,7 @@ pub fn clear_windows(events: &mut [i64], count: usize, windows: &[Window], seen:
 #[repr(C)]
 #[derive(Clone, Copy)]
 pub struct Taken {
-    pub code: u32,
+    pub code: u32, // a number beside what it goes with: C reads this record
     pub count: usize,
 }
 

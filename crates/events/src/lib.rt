@@ -84,7 +84,7 @@ pub struct Event {
 #[repr(C)]
 #[derive(Clone, Copy)]
 pub struct Made {
-    pub code: u32,
+    pub code: u32, // a number beside what it goes with: C reads this record
     pub event: Event,
 }
 
@@ -92,7 +92,7 @@ pub struct Made {
 #[repr(C)]
 #[derive(Clone, Copy)]
 pub struct Size {
-    pub code: u32,
+    pub code: u32, // a number beside what it goes with: C reads this record
     pub bytes: usize,
 }
 

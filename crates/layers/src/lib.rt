@@ -38,7 +38,7 @@ pub struct Layers {
 #[repr(C)]
 #[derive(Clone, Copy)]
 pub struct LayersAnswer {
-    pub code: u32,
+    pub code: u32, // a number beside what it goes with: C reads this record
     pub layers: Layers,
 }
 
@@ -46,7 +46,7 @@ pub struct LayersAnswer {
 #[repr(C)]
 #[derive(Clone, Copy)]
 pub struct Velocity {
-    pub code: u32,
+    pub code: u32, // a number beside what it goes with: C reads this record
     pub value: i64,
     pub layers: Layers,
 }

@@ -58,7 +58,7 @@ pub struct Went {
 #[repr(C)]
 #[derive(Clone, Copy)]
 pub struct Answer {
-    pub code: u32,
+    pub code: u32, // a number beside what it goes with: C reads this record
     pub count: usize,
 }
 

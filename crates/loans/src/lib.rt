@@ -23,7 +23,7 @@ use writing::Outcome;
 #[repr(C)]
 #[derive(Clone, Copy)]
 pub struct NoteAnswer {
-    pub code: u32,
+    pub code: u32, // a number beside what it goes with: C reads this record
     pub count: usize,
     pub track: Track,
 }

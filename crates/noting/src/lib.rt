@@ -59,7 +59,7 @@ pub struct Played {
 #[repr(C)]
 #[derive(Clone, Copy)]
 pub struct Noted {
-    pub code: u32,
+    pub code: u32, // a number beside what it goes with: C reads this record
     pub count: usize,
     pub budget: Budget,
     pub track: Track,

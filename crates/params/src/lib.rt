@@ -34,7 +34,7 @@ pub struct NoteParam {
 #[repr(C)]
 #[derive(Clone, Copy)]
 pub struct ParamAnswer {
-    pub code: u32,
+    pub code: u32, // a number beside what it goes with: C reads this record
     pub param: NoteParam,
 }
 
@@ -42,7 +42,7 @@ pub struct ParamAnswer {
 #[repr(C)]
 #[derive(Clone, Copy)]
 pub struct ParamValue {
-    pub code: u32,
+    pub code: u32, // a number beside what it goes with: C reads this record
     pub value: i32,
     pub param: NoteParam,
 }
@@ -51,7 +51,7 @@ pub struct ParamValue {
 #[repr(C)]
 #[derive(Clone, Copy)]
 pub struct Told {
-    pub code: u32,
+    pub code: u32, // a number beside what it goes with: C reads this record
     pub value: i32,
 }
 

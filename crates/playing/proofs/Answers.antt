@@ -1,9 +1,12 @@
 -- The answers of the calls, chosen by the number that was asked.
+--     as-too-many, as-well   of a part's number, with the test of the whole track
 --     unvalued, valued    of a call that gives a value and a track
 --     unsummed, summing   of a call that gives a velocity and a track
-use mathlib.Core.Path.{◌≡◌, sym, ap, ap₂, ◌∙◌}
+use mathlib.Core.Path.{◌≡◌, refl, sym, ap, ap₂, ◌∙◌}
+use mathlib.Core.Bool.{Bool, true, false, cond}
 use Prim.Native.Nat.{ℕ}
-use borrow.Author.Tests.{eq-eqb, ne_eqb}
+use borrow.Author.Tests.{eq-eqb, ne_eqb, eqb-true}
+use lib.Dec.{eqb}
 use lib.IntN.{ℤ, pos}
 use Rattle.layers.specs.declared.Velocity.{Velocity}
 use Rattle.state.specs.declared.Track.{Track}
@@ -40,3 +43,16 @@ module _ {m : ℕ} (a : Track) (s : Velocity) (e : m ≡ asked (ok_track a) s.co
   pub summing : m ≡ 0 → record { code = 0; value = s.value; track = with_layers a s.layers } ≡ summed_up a s
   unfolding summed_up
   summing h = rw (eq-eqb (asked (ok_track a) s.code) 0 (sym e ∙ h))
+
+-- a part's number stays where it is 3, or the whole is well
+pub as-too-many : (ok : Bool) {n : ℕ} → n ≡ 3 → n ≡ asked ok n
+unfolding asked
+as-too-many ok e = rw e
+
+pub as-well : {ok : Bool} (n : ℕ) → ok ≡ true → n ≡ asked ok n
+unfolding asked
+as-well {ok = ok} n e = go (eqb n 3) (eqb-true n 3)
+  where
+    go : (t : Bool) → (t ≡ true → n ≡ 3) → n ≡ cond t 3 (cond ok n 4)
+    go true f = f refl
+    go false f = rw e

@@ -11,6 +11,7 @@ ghost use Rattle.playing.specs.Settled.{settled, listed};
 ghost use Rattle.playing.specs.Calls.{asked, on_param, on_layers, time_taken, summed_up, value_on_time, value_on_note};
 
 use layers::{LayersAnswer, Velocity};
+use numbers::Refusal;
 use params::{NoteParam, ParamAnswer, ParamValue};
 use reserved::ON_NOTE;
 use state::{Track, TrackAnswer, track_ok};
@@ -30,7 +31,7 @@ pub const L: u32 = 4;
 #[repr(C)]
 #[derive(Clone, Copy)]
 pub struct TrackValue {
-    pub code: u32,
+    pub code: u32, // a number beside what it goes with: C reads this record
     pub value: i32,
     pub track: Track,
 }
@@ -39,145 +40,107 @@ pub struct TrackValue {
 #[repr(C)]
 #[derive(Clone, Copy)]
 pub struct TrackVelocity {
-    pub code: u32,
+    pub code: u32, // a number beside what it goes with: C reads this record
     pub value: i64,
     pub track: Track,
 }
 
-// A parameter by its number.
+// A parameter by its number. An enum of the five would not do: any other number asks the length's own call, whose 3 comes before the 4
+// that the number is refused with.
 fn param_at(track: Track, which: u32) -> NoteParam
     ensures { result ≡ param_of which track }
 {
-    if which == V {
-        return track.v;
+    match which {
+        V => track.v,
+        Q => track.q,
+        T => track.t,
+        O => track.o,
+        _ => track.l,
     }
-    if which == Q {
-        return track.q;
-    }
-    if which == T {
-        return track.t;
-    }
-    if which == O {
-        return track.o;
-    }
-    track.l
 }
 
-fn with_param(mut track: Track, which: u32, param: NoteParam) -> Track
-    ensures { result ≡ with_param which track param }
+// Puts a parameter in its place.
+fn put_param(track: &mut Track, which: u32, param: NoteParam)
+    ensures { track.new ≡ with_param which track.old param }
 {
-    if which == V {
-        track.v = param;
-        return track;
+    match which {
+        V => track.v = param,
+        Q => track.q = param,
+        T => track.t = param,
+        O => track.o = param,
+        _ => track.l = param,
     }
-    if which == Q {
-        track.q = param;
-        return track;
-    }
-    if which == T {
-        track.t = param;
-        return track;
-    }
-    if which == O {
-        track.o = param;
-        return track;
-    }
-    track.l = param;
-    track
 }
 
-// What a part's call answers, with the test of the whole track in 4's place: 3 comes before it, 5 after it.
+// What a part's call answers, with the test of the whole track in 4's place: 3 comes before it, 5 after it. It stays a number: the
+// answers of the parts and of the track carry it as C reads it, and a Result would be read off the one and told to the other.
 fn asked(ok: bool, code: u32) -> u32
     ensures { result ≡ asked ok code }
 {
-    if code == 3 {
-        return 3;
+    if code == Refusal::TooMany.number() || ok {
+        code
+    } else {
+        Refusal::OutOfRange.number()
     }
-    if ok {
-        return code;
-    }
-    4
 }
 
 // The track with a parameter as its own call leaves it.
-fn param_set(track: Track, which: u32, after: ParamAnswer) -> TrackAnswer
+fn param_set(mut track: Track, which: u32, after: ParamAnswer) -> TrackAnswer
     ensures { result ≡ on_param which track after }
 {
-    let a = track_ok(track);
-    let b = which <= L;
-    let code = asked(a & b, after.code);
-    if code != 0 {
-        return TrackAnswer {
-            code: code,
-            track: track,
-        };
+    let code = asked(track_ok(track) & (which <= L), after.code);
+    if code == 0 {
+        put_param(&mut track, which, after.param);
     }
-    let left = with_param(track, which, after.param);
-    TrackAnswer {
-        code: 0,
-        track: left,
-    }
+    TrackAnswer { code, track }
 }
 
 // The track with its layers as their own call leaves them.
 fn layers_set(mut track: Track, after: LayersAnswer) -> TrackAnswer
     ensures { result ≡ on_layers track after }
 {
-    let a = track_ok(track);
-    let code = asked(a, after.code);
-    if code != 0 {
-        return TrackAnswer {
-            code: code,
-            track: track,
-        };
+    let code = asked(track_ok(track), after.code);
+    if code == 0 {
+        track.layers = after.layers;
     }
-    let layers = after.layers;
-    track.layers = layers;
-    TrackAnswer {
-        code: 0,
-        track: track,
-    }
+    TrackAnswer { code, track }
 }
 
 // The track with what a note took of a curve or a cycle gone from its parameter.
-fn time_taken(track: Track, which: u32, taken: ParamValue) -> TrackValue
+fn time_taken(mut track: Track, which: u32, taken: ParamValue) -> TrackValue
     ensures { result ≡ time_taken which track taken }
 {
-    let a = track_ok(track);
-    let b = which <= L;
-    let code = asked(a & b, taken.code);
+    let code = asked(track_ok(track) & (which <= L), taken.code);
     if code != 0 {
         return TrackValue {
-            code: code,
+            code,
             value: 0,
-            track: track,
+            track,
         };
     }
-    let left = with_param(track, which, taken.param);
+    put_param(&mut track, which, taken.param);
     TrackValue {
         code: 0,
         value: taken.value,
-        track: left,
+        track,
     }
 }
 
 // What a parameter's call leaves, with the test of the whole track in 4's place: refused, the parameter is the track's own.
+// Each call on a note's list puts it into the track field by field: one function of the number for all five, the track handed on
+// by value, was tried, and the compiled code kept five copies of the track.
 fn settled(ok: bool, taken: ParamValue, own: NoteParam) -> ParamValue
     ensures { result ≡ settled ok taken own }
 {
     let code = asked(ok, taken.code);
     if code != 0 {
-        return ParamValue {
-            code: code,
+        ParamValue {
+            code,
             value: 0,
             param: own,
-        };
-    }
-    let param = taken.param;
-    ParamValue {
-        code: 0,
-        value: taken.value,
-        param: param,
+        }
+    } else {
+        ParamValue { code, ..taken }
     }
 }
 
@@ -185,37 +148,17 @@ fn settled(ok: bool, taken: ParamValue, own: NoteParam) -> ParamValue
 fn is_listed(left: ParamValue) -> bool
     ensures { result ≡ listed left }
 {
-    let param = left.param;
-    let reserve = param.reserve;
-    (left.code == 0) & (reserve.kind == ON_NOTE)
-}
-
-// The track's own value after a note.
-fn value_left(left: ParamValue, own: i32) -> i32
-    ensures { result ≡ cond (listed left) left.value own }
-{
-    if is_listed(left) {
-        return left.value;
-    }
-    own
-}
-
-// Whether a gate is one in steps after a note: a list's is not.
-fn step_left(left: ParamValue, own: u32) -> u32
-    ensures { result ≡ cond (listed left) 0 own }
-{
-    if is_listed(left) {
-        return 0;
-    }
-    own
+    (left.code == 0) & (left.param.reserve.kind == ON_NOTE)
 }
 
 fn value_on_time(track: Track, which: u32, def: i32) -> TrackValue
     ensures { result ≡ value_on_time which track def }
 {
-    let param = param_at(track, which);
-    let taken = param.calc_on_time(track.timepos, def);
-    time_taken(track, which, taken)
+    time_taken(
+        track,
+        which,
+        param_at(track, which).calc_on_time(track.timepos, def),
+    )
 }
 
 // A note's velocity at the track's time, of the curve or cycle that is reserved, or the default; a curve that is over goes.
@@ -259,16 +202,15 @@ pub fn calc_l_on_time(track: Track, def: i32) -> TrackValue
 pub fn calc_v_on_note(mut track: Track, def: i32) -> TrackValue
     ensures { result ≡ value_on_note velocity track def }
 {
-    let own = track.v;
-    let taken = own.calc_on_note(def);
-    let left = settled(track_ok(track), taken, own);
-    let param = left.param;
-    track.v = param;
-    track.velocity = value_left(left, track.velocity);
+    let left = settled(track_ok(track), track.v.calc_on_note(def), track.v);
+    track.v = left.param;
+    if is_listed(left) {
+        track.velocity = left.value;
+    }
     TrackValue {
         code: left.code,
         value: left.value,
-        track: track,
+        track,
     }
 }
 
@@ -276,16 +218,15 @@ pub fn calc_v_on_note(mut track: Track, def: i32) -> TrackValue
 pub fn calc_t_on_note(mut track: Track, def: i32) -> TrackValue
     ensures { result ≡ value_on_note timing track def }
 {
-    let own = track.t;
-    let taken = own.calc_on_note(def);
-    let left = settled(track_ok(track), taken, own);
-    let param = left.param;
-    track.t = param;
-    track.timing = value_left(left, track.timing);
+    let left = settled(track_ok(track), track.t.calc_on_note(def), track.t);
+    track.t = left.param;
+    if is_listed(left) {
+        track.timing = left.value;
+    }
     TrackValue {
         code: left.code,
         value: left.value,
-        track: track,
+        track,
     }
 }
 
@@ -293,17 +234,16 @@ pub fn calc_t_on_note(mut track: Track, def: i32) -> TrackValue
 pub fn calc_qlen_on_note(mut track: Track, def: i32) -> TrackValue
     ensures { result ≡ value_on_note gate track def }
 {
-    let own = track.q;
-    let taken = own.calc_on_note(def);
-    let left = settled(track_ok(track), taken, own);
-    let param = left.param;
-    track.q = param;
-    track.qlen = value_left(left, track.qlen);
-    track.step = step_left(left, track.step);
+    let left = settled(track_ok(track), track.q.calc_on_note(def), track.q);
+    track.q = left.param;
+    if is_listed(left) {
+        track.qlen = left.value;
+        track.step = 0;
+    }
     TrackValue {
         code: left.code,
         value: left.value,
-        track: track,
+        track,
     }
 }
 
@@ -311,16 +251,15 @@ pub fn calc_qlen_on_note(mut track: Track, def: i32) -> TrackValue
 pub fn calc_o_on_note(mut track: Track, def: i32) -> TrackValue
     ensures { result ≡ value_on_note octave track def }
 {
-    let own = track.o;
-    let taken = own.calc_on_note(def);
-    let left = settled(track_ok(track), taken, own);
-    let param = left.param;
-    track.o = param;
-    track.octave = value_left(left, track.octave);
+    let left = settled(track_ok(track), track.o.calc_on_note(def), track.o);
+    track.o = left.param;
+    if is_listed(left) {
+        track.octave = left.value;
+    }
     TrackValue {
         code: left.code,
         value: left.value,
-        track: track,
+        track,
     }
 }
 
@@ -328,15 +267,12 @@ pub fn calc_o_on_note(mut track: Track, def: i32) -> TrackValue
 pub fn calc_l_on_note(mut track: Track, def: i32) -> TrackValue
     ensures { result ≡ value_on_note span track def }
 {
-    let own = track.l;
-    let taken = own.calc_on_note(def);
-    let left = settled(track_ok(track), taken, own);
-    let param = left.param;
-    track.l = param;
+    let left = settled(track_ok(track), track.l.calc_on_note(def), track.l);
+    track.l = left.param;
     TrackValue {
         code: left.code,
         value: left.value,
-        track: track,
+        track,
     }
 }
 
@@ -344,38 +280,38 @@ pub fn calc_l_on_note(mut track: Track, def: i32) -> TrackValue
 pub fn set_v_sub(track: Track, index: usize, velocity: i32) -> TrackAnswer
     ensures { result ≡ on_layers track (set_v_sub track.layers index velocity) }
 {
-    let layers = track.layers;
-    let after = layers.set_v_sub(index, velocity);
-    layers_set(track, after)
+    layers_set(track, track.layers.set_v_sub(index, velocity))
 }
 
 // A layer's random width. Refuses 4, 5.
 pub fn set_v_sub_random(track: Track, index: usize, random: i32) -> TrackAnswer
     ensures { result ≡ on_layers track (set_v_sub_random track.layers index random) }
 {
-    let layers = track.layers;
-    let after = layers.set_v_sub_random(index, random);
-    layers_set(track, after)
+    layers_set(track, track.layers.set_v_sub_random(index, random))
 }
 
 // Reserves a curve for a layer, from the track's time and the velocity parameter's delay on. Refuses 3, 4, 5.
 pub fn set_v_sub_on_time(track: Track, index: usize, values: &[i32]) -> TrackAnswer
     ensures { result ≡ on_layers track (set_v_sub_on_time track.layers index track.timepos track.v.delay values.now) }
 {
-    let layers = track.layers;
-    let param = track.v;
-    let after = layers.set_v_sub_on_time(index, track.timepos, param.delay, values);
-    layers_set(track, after)
+    layers_set(
+        track,
+        track
+            .layers
+            .set_v_sub_on_time(index, track.timepos, track.v.delay, values),
+    )
 }
 
 // Reserves a cycle for a layer, its length and then its values; nothing, where there is no value. Refuses 3, 4, 5.
 pub fn set_v_sub_on_cycle(track: Track, index: usize, args: &[i32]) -> TrackAnswer
     ensures { result ≡ on_layers track (set_v_sub_on_cycle track.layers index track.timepos track.v.delay args.now) }
 {
-    let layers = track.layers;
-    let param = track.v;
-    let after = layers.set_v_sub_on_cycle(index, track.timepos, param.delay, args);
-    layers_set(track, after)
+    layers_set(
+        track,
+        track
+            .layers
+            .set_v_sub_on_cycle(index, track.timepos, track.v.delay, args),
+    )
 }
 
 // Reserves a value of a layer for each of the next notes, round and round where the velocity parameter's repeat stands.
@@ -383,31 +319,31 @@ pub fn set_v_sub_on_cycle(track: Track, index: usize, args: &[i32]) -> TrackAnsw
 pub fn set_v_sub_on_note(track: Track, index: usize, values: &[i32]) -> TrackAnswer
     ensures { result ≡ on_layers track (set_v_sub_on_note track.layers index track.v.repeat values.now) }
 {
-    let layers = track.layers;
-    let param = track.v;
-    let after = layers.set_v_sub_on_note(index, param.repeat, values);
-    layers_set(track, after)
+    layers_set(
+        track,
+        track
+            .layers
+            .set_v_sub_on_note(index, track.v.repeat, values),
+    )
 }
 
 // The track with its layers advanced by a note.
 fn summed_up(mut track: Track, sum: Velocity) -> TrackVelocity
     ensures { result ≡ summed_up track sum }
 {
-    let a = track_ok(track);
-    let code = asked(a, sum.code);
+    let code = asked(track_ok(track), sum.code);
     if code != 0 {
         return TrackVelocity {
-            code: code,
+            code,
             value: 0,
-            track: track,
+            track,
         };
     }
-    let layers = sum.layers;
-    track.layers = layers;
+    track.layers = sum.layers;
     TrackVelocity {
         code: 0,
         value: sum.value,
-        track: track,
+        track,
     }
 }
 
@@ -415,9 +351,7 @@ fn summed_up(mut track: Track, sum: Velocity) -> TrackVelocity
 pub fn apply_v_sub(track: Track, velocity: i32) -> TrackVelocity
     ensures { result ≡ summed_up track (apply_v_sub track.layers track.timepos velocity) }
 {
-    let layers = track.layers;
-    let sum = layers.apply_v_sub(track.timepos, velocity);
-    summed_up(track, sum)
+    summed_up(track, track.layers.apply_v_sub(track.timepos, velocity))
 }
 
 // The setters of a parameter, `which` by its number; any other number refuses 4.
@@ -426,97 +360,83 @@ pub fn apply_v_sub(track: Track, velocity: i32) -> TrackVelocity
 pub fn set_param_on_time(track: Track, which: u32, values: &[i32]) -> TrackAnswer
     ensures { result ≡ on_param which track (set_on_time (param_of which track) track.timepos values.now) }
 {
-    let param = param_at(track, which);
-    let after = param.set_on_time(track.timepos, values);
-    param_set(track, which, after)
+    param_set(
+        track,
+        which,
+        param_at(track, which).set_on_time(track.timepos, values),
+    )
 }
 
 // Reserves a cycle, its length and then its values, from there on; nothing, where there is no value. Refuses 3, 4.
 pub fn set_param_on_cycle(track: Track, which: u32, args: &[i32]) -> TrackAnswer
     ensures { result ≡ on_param which track (set_on_cycle (param_of which track) track.timepos args.now) }
 {
-    let param = param_at(track, which);
-    let after = param.set_on_cycle(track.timepos, args);
-    param_set(track, which, after)
+    param_set(
+        track,
+        which,
+        param_at(track, which).set_on_cycle(track.timepos, args),
+    )
 }
 
 // Reserves a value for each of the next notes, round and round where repeat stands. Refuses 3, 4.
 pub fn set_param_on_note(track: Track, which: u32, values: &[i32]) -> TrackAnswer
     ensures { result ≡ on_param which track (set_on_note (param_of which track) values.now) }
 {
-    let param = param_at(track, which);
-    let after = param.set_on_note(values);
-    param_set(track, which, after)
+    param_set(track, which, param_at(track, which).set_on_note(values))
 }
 
 // Nothing stays reserved. Refuses 4.
 pub fn clear_param_reserve(track: Track, which: u32) -> TrackAnswer
     ensures { result ≡ on_param which track (clear_reserve (param_of which track)) }
 {
-    let param = param_at(track, which);
-    let after = param.clear_reserve();
-    param_set(track, which, after)
+    param_set(track, which, param_at(track, which).clear_reserve())
 }
 
 // The random width of a value. Refuses 4.
 pub fn set_param_random(track: Track, which: u32, random: i32) -> TrackAnswer
     ensures { result ≡ on_param which track (set_random (param_of which track) random) }
 {
-    let param = param_at(track, which);
-    let after = param.set_random(random);
-    param_set(track, which, after)
+    param_set(track, which, param_at(track, which).set_random(random))
 }
 
 // The range of a value. Refuses 4.
 pub fn set_param_range(track: Track, which: u32, low: i32, high: i32) -> TrackAnswer
     ensures { result ≡ on_param which track (set_range (param_of which track) low high) }
 {
-    let param = param_at(track, which);
-    let after = param.set_range(low, high);
-    param_set(track, which, after)
+    param_set(track, which, param_at(track, which).set_range(low, high))
 }
 
 // No range. Refuses 4.
 pub fn clear_param_range(track: Track, which: u32) -> TrackAnswer
     ensures { result ≡ on_param which track (clear_range (param_of which track)) }
 {
-    let param = param_at(track, which);
-    let after = param.clear_range();
-    param_set(track, which, after)
+    param_set(track, which, param_at(track, which).clear_range())
 }
 
 // The delay of what is reserved from now on. Refuses 4.
 pub fn set_param_delay(track: Track, which: u32, delay: i32) -> TrackAnswer
     ensures { result ≡ on_param which track (set_delay (param_of which track) delay) }
 {
-    let param = param_at(track, which);
-    let after = param.set_delay(delay);
-    param_set(track, which, after)
+    param_set(track, which, param_at(track, which).set_delay(delay))
 }
 
 // The maximum of a value. Refuses 4.
 pub fn set_param_max(track: Track, which: u32, max: i32) -> TrackAnswer
     ensures { result ≡ on_param which track (set_max (param_of which track) max) }
 {
-    let param = param_at(track, which);
-    let after = param.set_max(max);
-    param_set(track, which, after)
+    param_set(track, which, param_at(track, which).set_max(max))
 }
 
 // No maximum. Refuses 4.
 pub fn clear_param_max(track: Track, which: u32) -> TrackAnswer
     ensures { result ≡ on_param which track (clear_max (param_of which track)) }
 {
-    let param = param_at(track, which);
-    let after = param.clear_max();
-    param_set(track, which, after)
+    param_set(track, which, param_at(track, which).clear_max())
 }
 
 // Whether a list that is reserved from now on goes round: 0 or 1. Refuses 4.
 pub fn set_param_repeat(track: Track, which: u32, repeat: u32) -> TrackAnswer
     ensures { result ≡ on_param which track (set_repeat (param_of which track) repeat) }
 {
-    let param = param_at(track, which);
-    let after = param.set_repeat(repeat);
-    param_set(track, which, after)
+    param_set(track, which, param_at(track, which).set_repeat(repeat))
 }

@@ -1,5 +1,5 @@
 pub mod Listing
 pub mod Reading
 pub mod Reaching
-pub mod Longer
 pub mod Asking
+pub mod Longer

@@ -1,34 +1,53 @@
 -- How far reading a record gets: past its mark, and not past the tape.
-use mathlib.Core.Path.{◌≡◌, refl, sym, ◌∙◌}
-use mathlib.Core.Bool.{Bool, true, false, cond}
+use mathlib.Core.Path.{◌≡◌, refl}
 use mathlib.Core.List.{List}
 use Prim.Native.Nat.{ℕ, ◌+◌, ◌≤◌}
 use native.Mathlib.Omega.{arith}
-use lib.Dec.{eqb}
 use lib.ListN.{length}
-use borrow.Author.Tests.{eqb-true, eq-eqb}
-use Rattle.reel.specs.Records.{mark_at, fault_by, count_at, sound, unsound, record_by}
+use Rattle.std.specs.Prelude.{Option, Some, None, Result, Ok, Err}
+use Rattle.numbers.specs.Refusals.{told}
+use Rattle.numbers.specs.declared.refusals.Refusal.{Refusal}
+use Rattle.reel.specs.Records.{behind, mark_at, fault_in, fault_by, mark_fault_by, count_at, sound, if_asked, record_in, record_by, number_told}
+use Rattle.reel.specs.declared.marks.Mark.{Mark}
 use Rattle.reel.specs.declared.records.Record.{Record}
-use Rattle.reel.proofs.Reading.{fault-none}
-
--- of a record that is there or refused by a number, the code says which
-chosen : (k : ℕ) (b : Bool) (x y : Record) → eqb k 0 ≡ b → x.code ≡ 0 → y.code ≡ k → (cond b x y).code ≡ k
-chosen k true x y e p q = p ∙ sym (eqb-true k 0 e)
-chosen k false x y e p q = q
+use Rattle.reel.proofs.Listing.{length-numbers}
+use Rattle.reel.proofs.Reading.{Fits, fault-none}
 
 module _ (limit : ℕ) (s : List ℕ) (p due : ℕ) where
-  pub code_is : (record_by limit s p due).code ≡ fault_by limit s p due
-  unfolding record_by
-  code_is =
-      let k = fault_by limit s p due in
-      chosen k (eqb k 0) (sound s p (mark_at s p) (count_at s p (mark_at s p))) (unsound k p) refl refl refl
+  -- of a record that is there or refused by a number, the number says which
+  pub code_is : number_told (record_by limit s p due) ≡ told (fault_by limit s p due)
+  unfolding record_by fault_by
+  code_is = go (mark_at s p)
+    where
+      each : (f : Result Unit Refusal) (r : Record) → number_told (if_asked f r) ≡ told f
+      each (Ok _) r = refl
+      each (Err e) r = refl
 
-  pub read_none : (record_by limit s p due).code ≡ 0 → fault_by limit s p due ≡ 0
-  read_none h = sym code_is ∙ h
+      go : (o : Option Mark) → number_told (record_in limit s p due o) ≡ told (fault_in limit s p due o)
+      go None = refl
+      go (Some m) = each (mark_fault_by limit s p due m) (sound s p m (count_at s p m))
 
-  pub record-next : (record_by limit s p due).code ≡ 0 → (p + 2 ≤ (record_by limit s p due).next) × ((record_by limit s p due).next ≤ length s)
+  -- a record that was read: no more numbers than a list may have, past its mark, and not past the tape
+  pub record Reached (r : Record) : Type 0 where
+    pub few : r.list.count ≤ limit
+    pub past : p + 2 ≤ r.next
+    pub within : r.next ≤ length s
+
+  pub reached : (r : Record) → record_by limit s p due ≡ Ok r → Reached r
   unfolding record_by
-  record-next h =
-      let z = read_none h in
-      let f = fault-none limit s p due z in
-      rw (eq-eqb _ _ z) (omega arith, f.room)
+  reached r = go (mark_at s p) refl
+    where
+      each : (m : Mark) → Some m ≡ mark_at s p → (f : Result Unit Refusal) → mark_fault_by limit s p due m ≡ f → if_asked f (sound s p m (count_at s p m)) ≡ Ok r → Reached r
+      each m is (Ok _) q e =
+          let f : Fits limit s p m = fault-none limit s p due m is q in
+          let g : sound s p m (count_at s p m) ≡ r = cc in
+          rw (← g) (record {
+            few = omega (arith, f.few, length-numbers s (behind p m) (count_at s p m));
+            past = omega arith;
+            within = f.room;
+          })
+      each m is (Err x) q e = absurd (cc)
+
+      go : (o : Option Mark) → o ≡ mark_at s p → record_in limit s p due o ≡ Ok r → Reached r
+      go None is e = absurd (cc)
+      go (Some m) is e = each m is (mark_fault_by limit s p due m) refl e

@@ -1,23 +1,23 @@
 -- 01, "The tape program": the marks, how many numbers each has, and in which order they may stand.
-use Rattle.std.specs.Prelude.{Bool, true, false, cond, ◌&&◌, ℕ, ◌+◌, ◌*◌, eqb, ltb}
+use Rattle.std.specs.Prelude.{Bool, true, false, cond, Option, Some, None, ℕ, ◌+◌, ◌*◌, eqb}
 use Rattle.reel.specs.declared.marks.Mark.{Mark}
-use Rattle.reel.specs.declared.marks.Mark.TheVariants.{Track, Budget, Time, Freqs, Curve, Cycle, Turn, Cut, Unknown}
+use Rattle.reel.specs.declared.marks.Mark.TheVariants.{Track, Budget, Time, Freqs, Curve, Cycle, Turn, Cut}
 
 -- two letters, the first the low byte
 abbrev pub letters : ℕ → ℕ → ℕ
 letters a b = a + 256 * b
 
 -- TK, MX, TP, FQ, OT, CY, RC, PF
-unfoldable pub mark_of : ℕ → Mark
+unfoldable pub mark_of : ℕ → Option Mark
 mark_of m =
-    cond (eqb m (letters 84 75)) Track
-    (cond (eqb m (letters 77 88)) Budget
-    (cond (eqb m (letters 84 80)) Time
-    (cond (eqb m (letters 70 81)) Freqs
-    (cond (eqb m (letters 79 84)) Curve
-    (cond (eqb m (letters 67 89)) Cycle
-    (cond (eqb m (letters 82 67)) Turn
-    (cond (eqb m (letters 80 70)) Cut Unknown)))))))
+    cond (eqb m (letters 84 75)) (Some Track)
+    (cond (eqb m (letters 77 88)) (Some Budget)
+    (cond (eqb m (letters 84 80)) (Some Time)
+    (cond (eqb m (letters 70 81)) (Some Freqs)
+    (cond (eqb m (letters 79 84)) (Some Curve)
+    (cond (eqb m (letters 67 89)) (Some Cycle)
+    (cond (eqb m (letters 82 67)) (Some Turn)
+    (cond (eqb m (letters 80 70)) (Some Cut) None)))))))
 
 -- how many numbers stand behind the mark, before a list
 abbrev pub width_of : Mark → ℕ
@@ -29,7 +29,6 @@ width_of Curve = 2
 width_of Cycle = 3
 width_of Turn = 1
 width_of Cut = 1
-width_of Unknown = 0
 
 -- whether a list follows, counted by the last of those numbers
 abbrev pub has_list : Mark → Bool
@@ -41,7 +40,6 @@ has_list Curve = true
 has_list Cycle = true
 has_list Turn = false
 has_list Cut = false
-has_list Unknown = false
 
 -- "TK timebase channel, then MX maximum seed, must come first and once": how many of the two stand before the mark
 abbrev pub order_of : Mark → ℕ
@@ -53,8 +51,7 @@ order_of Curve = 2
 order_of Cycle = 2
 order_of Turn = 2
 order_of Cut = 2
-order_of Unknown = 2
 
--- the mark is known, and its turn has come: so many of TK and MX were read
+-- the mark's turn has come: so many of TK and MX were read
 unfoldable pub is_due : ℕ → Mark → Bool
-is_due due m = ltb 0 (width_of m) && eqb (order_of m) due
+is_due due m = eqb (order_of m) due

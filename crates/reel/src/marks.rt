@@ -1,5 +1,5 @@
 // The marks of a tape: which there are, and what stands behind each.
-ghost use Rattle.std.specs.Prelude.{◌≡◌, ◌≤◌};
+ghost use Rattle.std.specs.Prelude.{◌≡◌, ◌≤◌, ◌<◌};
 ghost use Rattle.reel.specs.Marks.{mark_of, width_of, has_list, order_of, is_due};
 
 // In the order of the letters below; `Turn` makes the cycles' writes.
@@ -13,7 +13,6 @@ pub enum Mark {
     Cycle,
     Turn,
     Cut,
-    Unknown,
 }
 
 // Two letters, the first the low byte.
@@ -33,19 +32,20 @@ const RC: u32 = 17234;
 
 const PF: u32 = 18000;
 
-pub fn mark_of(letters: u32) -> Mark
+// The mark of two letters, if they are one's.
+pub fn mark_of(letters: u32) -> Option<Mark>
     ensures { result ≡ mark_of letters }
 {
     match letters {
-        TK => Mark::Track,
-        MX => Mark::Budget,
-        TP => Mark::Time,
-        FQ => Mark::Freqs,
-        OT => Mark::Curve,
-        CY => Mark::Cycle,
-        RC => Mark::Turn,
-        PF => Mark::Cut,
-        _ => Mark::Unknown,
+        TK => Some(Mark::Track),
+        MX => Some(Mark::Budget),
+        TP => Some(Mark::Time),
+        FQ => Some(Mark::Freqs),
+        OT => Some(Mark::Curve),
+        CY => Some(Mark::Cycle),
+        RC => Some(Mark::Turn),
+        PF => Some(Mark::Cut),
+        _ => None,
     }
 }
 
@@ -53,13 +53,13 @@ impl Mark {
     // How many numbers stand behind the mark, before a list.
     pub fn width(self) -> usize
         ensures value { result ≡ width_of self }
+        ensures lower_bound { 0 < result }
         ensures upper_bound { result ≤ 3 }
     {
         match self {
             Mark::Cycle => 3,
             Mark::Track | Mark::Budget | Mark::Freqs | Mark::Curve => 2,
             Mark::Time | Mark::Turn | Mark::Cut => 1,
-            Mark::Unknown => 0,
         }
     }
 
@@ -81,10 +81,10 @@ impl Mark {
         }
     }
 
-    // Whether the mark is known and its turn has come, `due` of TK and MX being read.
+    // Whether the mark's turn has come, `due` of TK and MX being read.
     pub fn is_due(self, due: u32) -> bool
         ensures { result ≡ is_due due self }
     {
-        (0 < self.width()) & (self.order() == due)
+        self.order() == due
     }
 }

@@ -1,9 +1,7 @@
 // A record of a tape, read whole or refused.
-ghost use Rattle.std.specs.Prelude.{◌≡◌, ◌+◌, ◌*◌, ◌≤◌, ◌<◌, length};
+ghost use Rattle.std.specs.Prelude.{Some, ◌≡◌, ◌+◌, ◌*◌, ◌≤◌, ◌<◌, length};
 ghost use Rattle.numbers.specs.Limits.{list_limit};
-ghost use Rattle.numbers.specs.Refusals.{told};
-ghost use Rattle.reel.specs.Marks.{width_of};
-ghost use Rattle.reel.specs.Records.{behind, mark_at, second_at, last_at, list_fault, fault, count_at, sound, unsound, record_at};
+ghost use Rattle.reel.specs.Records.{behind, mark_at, second_at, last_at, list_fault, mark_fault, count_at, sound, record_at};
 
 use crate::marks::{Mark, mark_of};
 use crate::numerals::{count_of, is_count, letters_at, numbers_at};
@@ -12,10 +10,9 @@ use numbers::{Refusal, ask};
 use text::number_at;
 
 // `x` and `y` are the first two numbers, `list` those of the list, `next` the place of the next record. What a mark does not
-// have is 0. A record that is refused has only its number, `code`.
+// have is 0.
 #[derive(Clone, Copy)]
 pub struct Record {
-    pub code: u32,
     pub mark: Mark,
     pub x: i32,
     pub y: i32,
@@ -24,17 +21,17 @@ pub struct Record {
 }
 
 // The mark at `at`, if all its numbers are there.
-fn mark_at(tape: &[u8], at: usize) -> Mark
+fn mark_at(tape: &[u8], at: usize) -> Option<Mark>
     ensures { result ≡ mark_at tape.now at }
 {
     if tape.len() < 2 || tape.len() - 2 < at {
-        return Mark::Unknown;
+        return None;
     }
-    let m = mark_of(letters_at(tape, at));
+    let m = mark_of(letters_at(tape, at))?;
     if tape.len() - 2 - at < 4 * m.width() {
-        Mark::Unknown
+        None
     } else {
-        m
+        Some(m)
     }
 }
 
@@ -52,7 +49,7 @@ fn second_at(tape: &[u8], at: usize, mark: Mark) -> i32
 
 // The last number before a list.
 fn last_at(tape: &[u8], at: usize, mark: Mark) -> i32
-    requires { (0 < width_of mark) × (behind at mark ≤ length tape.now) }
+    requires { behind at mark ≤ length tape.now }
     ensures { result ≡ last_at tape.now at mark }
 {
     number_at(tape, at + 2 + 4 * (mark.width() - 1))
@@ -61,7 +58,7 @@ fn last_at(tape: &[u8], at: usize, mark: Mark) -> i32
 // Why a list of n numbers from `at` on is refused: 2 for its target, 3 for n, 8 where it is short.
 fn list_fault(tape: &[u8], at: usize, target: i32, n: i32) -> Result<(), Refusal>
     requires { at ≤ length tape.now }
-    ensures { told result ≡ list_fault tape.now at target n }
+    ensures { result ≡ list_fault tape.now at target n }
 {
     ask(numbers::is_target(target), Refusal::NoTarget)?;
     ask(is_count(n), Refusal::TooMany)?;
@@ -70,8 +67,8 @@ fn list_fault(tape: &[u8], at: usize, target: i32, n: i32) -> Result<(), Refusal
 
 // Why the record of this mark is refused, if it is.
 fn fault_at(tape: &[u8], at: usize, mark: Mark, due: u32) -> Result<(), Refusal>
-    requires { mark ≡ mark_at tape.now at }
-    ensures { told result ≡ fault tape.now at due }
+    requires { Some mark ≡ mark_at tape.now at }
+    ensures { result ≡ mark_fault tape.now at due mark }
 {
     ask(mark.is_due(due), Refusal::TapeFault)?;
     if mark.has_list() {
@@ -85,7 +82,7 @@ fn fault_at(tape: &[u8], at: usize, mark: Mark, due: u32) -> Result<(), Refusal>
 
 // How many numbers its list has.
 fn count_at(tape: &[u8], at: usize, mark: Mark) -> usize
-    requires { (0 < width_of mark) × (behind at mark ≤ length tape.now) }
+    requires { behind at mark ≤ length tape.now }
     ensures { result ≡ count_at tape.now at mark }
 {
     if mark.has_list() {
@@ -97,12 +94,11 @@ fn count_at(tape: &[u8], at: usize, mark: Mark) -> usize
 
 // A record of which everything is there.
 fn sound_at(tape: &[u8], at: usize, mark: Mark, n: usize) -> Record
-    requires { (0 < width_of mark) × (n ≤ list_limit) × (behind at mark + 4 * n ≤ length tape.now) }
+    requires { (n ≤ list_limit) × (behind at mark + 4 * n ≤ length tape.now) }
     ensures { result ≡ sound tape.now at mark n }
 {
     let p = at + 2 + 4 * mark.width();
     Record {
-        code: 0,
         mark,
         x: number_at(tape, at + 2),
         y: second_at(tape, at, mark),
@@ -111,27 +107,14 @@ fn sound_at(tape: &[u8], at: usize, mark: Mark, n: usize) -> Record
     }
 }
 
-fn unsound_at(code: u32, at: usize) -> Record
-    ensures { result ≡ unsound code at }
-{
-    Record {
-        code,
-        mark: Mark::Unknown,
-        x: 0,
-        y: 0,
-        list: counted::empty(),
-        next: at,
-    }
-}
-
 // The record at `at`, where `due` of TK and MX were read before it. Refuses 8 (an unknown mark, a number missing, a mark whose
 // turn it is not), 2 (the target of a list), 3 (a list's count), 8 (a list that is short).
-pub fn record_at(tape: &[u8], at: usize, due: u32) -> Record
+pub fn record_at(tape: &[u8], at: usize, due: u32) -> Result<Record, Refusal>
     ensures { result ≡ record_at tape.now at due }
 {
-    let m = mark_at(tape, at);
-    match fault_at(tape, at, m, due) {
-        Ok(()) => sound_at(tape, at, m, count_at(tape, at, m)),
-        Err(refusal) => unsound_at(refusal.number(), at),
-    }
+    let Some(mark) = mark_at(tape, at) else {
+        return Err(Refusal::TapeFault);
+    };
+    fault_at(tape, at, mark, due)?;
+    Ok(sound_at(tape, at, mark, count_at(tape, at, mark)))
 }

@@ -47,7 +47,7 @@ pub struct OnCycleTime {
 #[repr(C)]
 #[derive(Clone, Copy)]
 pub struct CycleTimeAnswer {
-    pub code: u32,
+    pub code: u32, // a number beside what it goes with: C reads this record
     pub cycle: OnCycleTime,
 }
 

@@ -3,15 +3,12 @@
 // is handed the track, the sixteen cycle records by value and how many were lent; refused, it hands back what it was given.
 #![tactic(auto)]
 
-ghost use Rattle.std.specs.Prelude.{◌≡◌, true, false, cond, ◌||◌, ◌<◌};
-ghost use Rattle.numbers.specs.Limits.{places};
+ghost use Rattle.std.specs.Prelude.{◌≡◌, Bool, true};
 ghost use Rattle.numbers.specs.Refusals.{told};
 ghost use Rattle.cycles.specs.Turns.{option_of};
-ghost use Rattle.tables.specs.Tables.{cycles_with};
-ghost use Rattle.state.specs.Track.{with_tables};
 ghost use Rattle.state.specs.Tests.{ok_lent};
 ghost use Rattle.reserving.specs.declared.Kept.{Kept};
-ghost use Rattle.reserving.specs.Clearing.{answer, refusal, cleared, placed};
+ghost use Rattle.reserving.specs.Clearing.{refusal, cleared, reserving, freed};
 ghost use Rattle.reserving.specs.Setting.{note_room, wave_room, sine_room, cycle_room, with_note, with_wave, with_sine, with_cycle, remove_reserve, set_on_note, set_on_note_wave, set_on_note_sine, set_on_cycle};
 ghost use Rattle.reserving.specs.Old.{remove_cc_on, set_cc_on_note, set_cc_on_note_wave, set_pb_on_note_wave, remove_pb_on_note_wave, remove_cc_on_note, remove_cc_on_note_wave};
 
@@ -20,17 +17,14 @@ use cycles::{Cycle, PLACES, key_of};
 use drawing::{ask_target, cc_target, pb_target};
 use numbers::{Refusal, ask, is_length, is_target};
 use state::{OPTIONS, Track, TrackAnswer, cycles_of, lent_alone, track_ok};
-use tables::{
-    CycleTable, NORMAL, NoteTable, OnNoteSine, OnNoteValues, OnNoteWave, SineTable, WaveTable,
-    note_ok, sine_ok, wave_ok,
-};
+use tables::{CycleTable, NORMAL, OnNoteSine, OnNoteValues, OnNoteWave, note_ok, sine_ok, wave_ok};
 use values::WriteOption;
 
 // The track and the cycle table as a call leaves them.
 #[repr(C)]
 #[derive(Clone, Copy)]
 pub struct Kept {
-    pub code: u32,
+    pub code: u32, // a number beside what it goes with: C reads this record
     pub track: Track,
     pub cycles: [Cycle; PLACES],
 }
@@ -57,81 +51,155 @@ fn asked(
     )
 }
 
-// The track and the table with these tables for their own. The tables are made first, each of its own part, so that the track is copied
-// once. The cycles' array is a local, since the check takes no array straight from a field.
-fn with_tables(
-    track: Track,
-    notes: NoteTable,
-    waves: WaveTable,
-    sines: SineTable,
-    own: CycleTable,
-) -> Kept
-    ensures { result ≡ answer 0 (with_tables track notes waves sines own.count) own.items }
+// The track and the table without the target of key `k`, of whatever kind. The cycles' array is a local, since the check takes no
+// array straight from a field.
+fn cleared(mut track: Track, cycles: [Cycle; PLACES], k: usize) -> Kept
+    requires { ok_lent track cycles ≡ true }
+    ensures { result ≡ cleared track cycles k }
 {
-    let mut left = track;
-    left.notes = notes;
-    left.waves = waves;
-    left.sines = sines;
-    left.cycles = own.count;
+    let own = cycles_of(track, cycles).without(k);
+    track.notes = track.notes.without(k);
+    track.waves = track.waves.without(k);
+    track.sines = track.sines.without(k);
+    track.cycles = own.count;
     let items = own.items;
     Kept {
         code: 0,
-        track: left,
+        track,
         cycles: items,
     }
 }
 
-// The track and the table without the target of key `k`, of whatever kind.
-fn cleared(track: Track, cycles: [Cycle; PLACES], k: usize) -> Kept
-    requires { ok_lent track cycles ≡ true }
-    ensures { result ≡ cleared track cycles k }
+// What a call leaves that puts nothing: the target's old entries go, where nothing is refused.
+fn freed(
+    track: Track,
+    size: usize,
+    cycles: [Cycle; PLACES],
+    target: i32,
+    short: bool,
+    ok: bool,
+) -> Kept
+    ensures { result ≡ freed track size cycles target short ok }
 {
-    let own = cycles_of(track, cycles);
-    with_tables(
-        track,
-        track.notes.without(k),
-        track.waves.without(k),
-        track.sines.without(k),
-        own.without(k),
-    )
-}
-
-// Nothing stays reserved for a target, of whatever kind. Refuses 1, 2, 4.
-pub fn remove_reserve(track: Track, size: usize, cycles: [Cycle; PLACES], target: i32) -> Kept
-    ensures { result ≡ remove_reserve track size cycles target }
-{
-    if let Err(refusal) = asked(track, size, cycles, target, true, true) {
+    if let Err(refusal) = asked(track, size, cycles, target, short, ok) {
         return Kept {
             code: refusal.number(),
             track,
             cycles,
         };
     }
-    let k = key_of(target);
-    cleared(track, cycles, k)
+    cleared(track, cycles, key_of(target))
 }
 
-// One list more for notes, in place of what is reserved for its key `k`: the old entries go, and then a place is asked for.
-fn put_in_notes(track: Track, cycles: [Cycle; PLACES], k: usize, e: OnNoteValues) -> Kept
-    requires { ok_lent track cycles ≡ true }
-    ensures { result ≡ placed track cycles note_room (with_note e) (cleared track cycles k) }
+// A kind of reservation, by its table: whether a place is left there, and the table with one more at its end.
+trait Kind: Copy {
+    ghost room: { Kept → Bool };
+
+    ghost put: { Self → Kept → Kept };
+
+    fn room(kept: &Kept) -> bool
+        ensures { result ≡ room kept.now };
+
+    fn put(self, kept: &mut Kept)
+        requires free { kept.old.code ≡ 0 }
+        requires room { room kept.old ≡ true }
+        ensures { kept.new ≡ put self kept.old };
+}
+
+impl Kind for OnNoteValues {
+    ghost room = { note_room };
+
+    ghost put = { with_note };
+
+    fn room(kept: &Kept) -> bool {
+        kept.track.notes.count < PLACES
+    }
+
+    fn put(self, kept: &mut Kept) {
+        kept.track.notes = kept.track.notes.with(self);
+    }
+}
+
+impl Kind for OnNoteWave {
+    ghost room = { wave_room };
+
+    ghost put = { with_wave };
+
+    fn room(kept: &Kept) -> bool {
+        kept.track.waves.count < PLACES
+    }
+
+    fn put(self, kept: &mut Kept) {
+        kept.track.waves = kept.track.waves.with(self);
+    }
+}
+
+impl Kind for OnNoteSine {
+    ghost room = { sine_room };
+
+    ghost put = { with_sine };
+
+    fn room(kept: &Kept) -> bool {
+        kept.track.sines.count < PLACES
+    }
+
+    fn put(self, kept: &mut Kept) {
+        kept.track.sines = kept.track.sines.with(self);
+    }
+}
+
+// A cycle stands in the lent table, whose records are a local on their way, as in `cleared`.
+impl Kind for Cycle {
+    ghost room = { cycle_room };
+
+    ghost put = { with_cycle };
+
+    fn room(kept: &Kept) -> bool {
+        kept.track.cycles < PLACES
+    }
+
+    fn put(self, kept: &mut Kept) {
+        let items = kept.cycles;
+        let count = kept.track.cycles;
+        let own = CycleTable { count, items }.with(self);
+        let items = own.items;
+        kept.track.cycles = own.count;
+        kept.cycles = items;
+    }
+}
+
+// What a setter leaves, whatever it sets: the target's old entries go, then a place is asked for, and one more is put there.
+fn set<T: Kind>(
+    track: Track,
+    size: usize,
+    cycles: [Cycle; PLACES],
+    target: i32,
+    short: bool,
+    ok: bool,
+    e: T,
+) -> Kept
+    ensures { result ≡ reserving track size cycles target short ok T.room (T.put e) }
 {
-    let notes = track.notes.without(k);
-    if PLACES <= notes.count {
+    let mut left = freed(track, size, cycles, target, short, ok);
+    if left.code != 0 {
+        return left;
+    }
+    if !T::room(&left) {
         return Kept {
             code: Refusal::NoPlace.number(),
             track,
             cycles,
         };
     }
-    let own = cycles_of(track, cycles);
-    with_tables(
-        track,
-        notes.with(e),
-        track.waves.without(k),
-        track.sines.without(k),
-        own.without(k),
-    )
+    e.put(&mut left);
+    left
+}
+
+// Nothing stays reserved for a target, of whatever kind. Refuses 1, 2, 4.
+pub fn remove_reserve(track: Track, size: usize, cycles: [Cycle; PLACES], target: i32) -> Kept
+    ensures { result ≡ remove_reserve track size cycles target }
+{
+    freed(track, size, cycles, target, true, true)
 }
 
 // Whether the lists of a target's notes go round.
@@ -160,38 +228,7 @@ pub fn set_on_note(
         cycling: repeat_of(options, target),
         values,
     };
-    if let Err(refusal) = asked(track, size, cycles, target, listed.is_ok(), note_ok(e)) {
-        return Kept {
-            code: refusal.number(),
-            track,
-            cycles,
-        };
-    }
-    let k = key_of(target);
-    put_in_notes(track, cycles, k, e)
-}
-
-// The same with a wave.
-fn put_in_waves(track: Track, cycles: [Cycle; PLACES], k: usize, e: OnNoteWave) -> Kept
-    requires { ok_lent track cycles ≡ true }
-    ensures { result ≡ placed track cycles wave_room (with_wave e) (cleared track cycles k) }
-{
-    let waves = track.waves.without(k);
-    if PLACES <= waves.count {
-        return Kept {
-            code: Refusal::NoPlace.number(),
-            track,
-            cycles,
-        };
-    }
-    let own = cycles_of(track, cycles);
-    with_tables(
-        track,
-        track.notes.without(k),
-        waves.with(e),
-        track.sines.without(k),
-        own.without(k),
-    )
+    set(track, size, cycles, target, listed.is_ok(), note_ok(e), e)
 }
 
 // Reserves a curve for each note of a target: low, high and length by threes, used as it is (`NORMAL`), stretched to the note
@@ -213,38 +250,7 @@ pub fn set_on_note_wave(
         mode,
         values,
     };
-    if let Err(refusal) = asked(track, size, cycles, target, listed.is_ok(), wave_ok(e)) {
-        return Kept {
-            code: refusal.number(),
-            track,
-            cycles,
-        };
-    }
-    let k = key_of(target);
-    put_in_waves(track, cycles, k, e)
-}
-
-// The same with a sine.
-fn put_in_sines(track: Track, cycles: [Cycle; PLACES], k: usize, e: OnNoteSine) -> Kept
-    requires { ok_lent track cycles ≡ true }
-    ensures { result ≡ placed track cycles sine_room (with_sine e) (cleared track cycles k) }
-{
-    let sines = track.sines.without(k);
-    if PLACES <= sines.count {
-        return Kept {
-            code: Refusal::NoPlace.number(),
-            track,
-            cycles,
-        };
-    }
-    let own = cycles_of(track, cycles);
-    with_tables(
-        track,
-        track.notes.without(k),
-        track.waves.without(k),
-        sines.with(e),
-        own.without(k),
-    )
+    set(track, size, cycles, target, listed.is_ok(), wave_ok(e), e)
 }
 
 // Reserves a sine for each note of a target, which the sine has to name. Refuses 1, 2, 4, 6.
@@ -257,47 +263,8 @@ pub fn set_on_note_sine(
 ) -> Kept
     ensures { result ≡ set_on_note_sine track size cycles target sine }
 {
-    let k = key_of(target);
-    let named = key_of(sine.target) == k;
-    if let Err(refusal) = asked(track, size, cycles, target, true, sine_ok(sine) & named) {
-        return Kept {
-            code: refusal.number(),
-            track,
-            cycles,
-        };
-    }
-    put_in_sines(track, cycles, k, sine)
-}
-
-// The cycles with one more, but where the call only removes.
-fn cycles_with(free: CycleTable, e: Cycle, gone: bool) -> CycleTable
-    requires { gone ≡ false → free.count < places }
-    ensures { result ≡ cond gone free (cycles_with free e) }
-{
-    if gone { free } else { free.with(e) }
-}
-
-// The same with a cycle, which stands in the lent table; with `gone` the old entries go and none is put.
-fn put_in_cycles(track: Track, cycles: [Cycle; PLACES], k: usize, e: Cycle, gone: bool) -> Kept
-    requires { ok_lent track cycles ≡ true }
-    ensures { result ≡ placed track cycles (λ (f : Kept). gone || cycle_room f) (λ (f : Kept). cond gone f (with_cycle e f)) (cleared track cycles k) }
-{
-    let own = cycles_of(track, cycles);
-    let free = own.without(k);
-    if !gone & (PLACES <= free.count) {
-        return Kept {
-            code: Refusal::NoPlace.number(),
-            track,
-            cycles,
-        };
-    }
-    with_tables(
-        track,
-        track.notes.without(k),
-        track.waves.without(k),
-        track.sines.without(k),
-        cycles_with(free, e, gone),
-    )
+    let ok = sine_ok(sine) & (key_of(sine.target) == key_of(target));
+    set(track, size, cycles, target, true, ok, sine)
 }
 
 // Reserves a target's values at every `length` of time, from the track's time on; with a length of 0 or less, or no values,
@@ -314,16 +281,11 @@ pub fn set_on_cycle(
 {
     let listed = numbers_of(list);
     let values = listed.unwrap_or(empty());
+    let short = listed.is_ok();
     let ok = is_length(length) & numbers_ok(values);
-    if let Err(refusal) = asked(track, size, cycles, target, listed.is_ok(), ok) {
-        return Kept {
-            code: refusal.number(),
-            track,
-            cycles,
-        };
+    if (length <= 0) | (values.count == 0) {
+        return freed(track, size, cycles, target, short, ok);
     }
-    let k = key_of(target);
-    let empty = values.count == 0;
     let e = Cycle {
         target,
         length,
@@ -331,7 +293,7 @@ pub fn set_on_cycle(
         index: 0,
         values,
     };
-    put_in_cycles(track, cycles, k, e, (length <= 0) | empty)
+    set(track, size, cycles, target, short, ok, e)
 }
 
 // The older calls. `remove_reserve` of a controller. Refuses 1, 2, 4.

@@ -8,11 +8,13 @@ use mathlib.Core.Bool.{Bool, true, false, cond}
 use mathlib.Core.List.{List}
 use Prim.Native.Nat.{ℕ, zero, suc, ◌≤◌}
 use native.Mathlib.Omega.{arith}
-use borrow.Author.Tests.{eqb-true}
-use lib.Dec.{eqb, ltb}
+use Rattle.std.specs.Prelude.{Result, Ok, Err}
+use lib.Dec.{ltb}
 use lib.IntN.{ℤ}
 use lib.ListN.{length}
 use Rattle.numbers.specs.Limits.{list_limit}
+use Rattle.numbers.specs.Refusals.{number_of}
+use Rattle.numbers.specs.declared.refusals.Refusal.{Refusal}
 use Rattle.reel.specs.Limits.{tape_limit}
 use Rattle.reel.specs.declared.records.Record.{Record}
 use Rattle.reel.specs.Records.{record_by}
@@ -21,10 +23,9 @@ use Rattle.reel.specs.Longer.{is_longer}
 use Rattle.reel.proofs.Longer.{Others, same_here, others-on}
 use Rattle.lines.specs.Lines.{end_text}
 use Rattle.carrying.specs.declared.State.{State}
-use Rattle.carrying.specs.Carry.{Left, carried}
+use Rattle.carrying.specs.Carry.{carried}
 use Rattle.spool.specs.declared.Run.{Run}
-use Rattle.spool.specs.Play.{Pass, pass, begun, refused, past, after_call, after_record, step_by, play_from_by, ended, play_by, ending_of, printed_by, printed}
-use Rattle.spool.proofs.Steps.{of-both}
+use Rattle.spool.specs.Play.{Pass, pass, begun, refused, past, after_done, after_record, step_by, play_from_by, ended, play_by, ending_of, printed_by, printed}
 use Rattle.spool.proofs.Playing.{none_left}
 
 if-so : (t : Bool) (x y p : Pass) → (t ≡ true → x ≡ y) → cond t x p ≡ cond t y p
@@ -39,21 +40,18 @@ module _ (lo hi : ℕ) (s : List ℕ) where
   stopped n p e = none_left lo s n p e ∙ sym (none_left hi s n p e)
 
   module _ (n : ℕ) (a : Run) (l : List ℤ) where
-    abbrev R : Record
-    R = record_by hi s a.at a.due
-
-    abbrev K : Left
-    K = carried a.state R l
-
     -- after one record: over, or at the next
-    after : (R.code ≡ 0 → (x : State) (e : List ℤ) → Same n (pass (past a R.next x) e)) → Same n (step_by hi s a l)
+    after : ((r : Record) → record_by hi s a.at a.due ≡ Ok r → (x : State) (e : List ℤ) → Same n (pass (past a r.next x) e)) → Same n (step_by hi s a l)
     unfolding step_by
-    after f =
-        of-both (Same n) (eqb R.code 0) (after_call s a R K) (pass (refused a R.code (length s)) l)
-        (λ z. of-both (Same n) (eqb K.done.code 0) (pass (past a R.next K.done.state) K.events) (pass (refused a K.done.code (length s)) K.events)
-        (λ _. f (eqb-true R.code 0 z) K.done.state K.events)
-        (stopped n (pass (refused a K.done.code (length s)) K.events) (omega arith)))
-        (stopped n (pass (refused a R.code (length s)) l) (omega arith))
+    after f = go (record_by hi s a.at a.due) refl
+      where
+        each : (r : Record) → record_by hi s a.at a.due ≡ Ok r → (e : List ℤ) (d : Result State ℕ) → Same n (after_done s a r e d)
+        each r z e (Ok y) = f r z y e
+        each r z e (Err m) = stopped n (pass (refused a m (length s)) e) (omega arith)
+
+        go : (x : Result Record Refusal) → record_by hi s a.at a.due ≡ x → Same n (after_record s a l x)
+        go (Ok r) z = each r z (carried a.state r l).events (carried a.state r l).done
+        go (Err e) z = stopped n (pass (refused a (number_of e) (length s)) l) (omega arith)
 
   module _ (h : lo ≤ hi) where
     from : (n : ℕ) (a : Run) (l : List ℤ) → Others lo hi s n (place a.at a.due) → Same n (pass a l)
@@ -62,8 +60,8 @@ module _ (lo hi : ℕ) (s : List ℕ) where
     from (suc n) a l o =
         let q = place a.at a.due in
         if-so (ltb a.at (length s)) _ _ (pass a l) (λ t.
-        ap (λ (r : Record). play_from_by lo n s (after_record s a l r)) (same_here lo hi h s n q t o)
-        ∙ after n a l (λ z x e. from n (past a (record_by hi s a.at a.due).next x) e (others-on lo hi h s n q t o z)))
+        ap (λ (r : Result Record Refusal). play_from_by lo n s (after_record s a l r)) (same_here lo hi h s n q t o)
+        ∙ after n a l (λ r z x e. from n (past a r.next x) e (others-on lo hi h s n q t o r z)))
 
     pub as-played : (l : List ℤ) → is_longer lo hi s ≡ false → play_by lo s l ≡ play_by hi s l
     unfolding play_by is_longer

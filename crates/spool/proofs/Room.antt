@@ -10,6 +10,8 @@ use borrow.Author.Tests.{ltb-false, le-leb}
 use lib.Dec.{eqb, ltb}
 use lib.IntN.{ℤ}
 use lib.ListN.{length, length-append, length-take}
+use Rattle.std.specs.Prelude.{Result, Ok, Err}
+use Rattle.numbers.specs.declared.refusals.Refusal.{Refusal}
 use Rattle.laws.specs.Lists.{put_first}
 use Rattle.laws.specs.Rows.{flat}
 use Rattle.laws.proofs.Firsts.{length-put_first}
@@ -30,14 +32,14 @@ use Rattle.cycling.specs.Calls.{left_by, cycle_refusal, cycled_of, cycled_list}
 use Rattle.cycling.proofs.Refusing as turns
 use Rattle.reel.specs.Limits.{tape_limit, event_room}
 use Rattle.reel.specs.declared.marks.Mark.{Mark}
-use Rattle.reel.specs.declared.marks.Mark.TheVariants.{Track as TK, Budget as MX, Time as TP, Freqs as FQ, Curve as OT, Cycle as CY, Turn as RC, Cut as PF, Unknown}
+use Rattle.reel.specs.declared.marks.Mark.TheVariants.{Track as TK, Budget as MX, Time as TP, Freqs as FQ, Curve as OT, Cycle as CY, Turn as RC, Cut as PF}
 use Rattle.reel.specs.declared.records.Record.{Record}
 use Rattle.reel.specs.Records.{record_at}
 use Rattle.lines.specs.Lines.{events_word, bytes_word, over_word, seed_word, refused_word, at_word, pair_text, first_text, line_text, refusal_text, done_text, newline, page_long, printable, end_text}
 use Rattle.carrying.specs.declared.State.{State}
-use Rattle.carrying.specs.Carry.{make_track, make_budget, move_to, set_freqs, curve_of, set_cycle, turn_answer, turn_list, Left, carried_as, carried}
+use Rattle.carrying.specs.Carry.{carried_to, make_track, make_budget, move_to, set_freqs, curve_of, set_cycle, turn_answer, turn_list, carried_as, carried}
 use Rattle.spool.specs.declared.Run.{Run}
-use Rattle.spool.specs.Play.{Pass, pass, blank_state, begun, refused, past, after_call, step_by, step_of, play_from_by, play_from, ended, play_by, play_of, printed_by, printed}
+use Rattle.spool.specs.Play.{Pass, pass, blank_state, begun, refused, after_done, after_record, step_by, step_of, play_from_by, play_from, ended, play_by, play_of, printed_by, printed}
 
 -- a list of n records, so many of which are events
 pub record Holds (n count : ℕ) (l : List ℤ) : Type 0 where
@@ -84,20 +86,27 @@ module _ (n : ℕ) where
       go false = h
 
   -- ---- a record's call
-  abbrev Kept : Left → Type 0
-  Kept k = Holds n k.done.state.count k.events
+  abbrev Kept : List ℤ → Result State ℕ → Type 0
+  Kept l (Ok s) = Holds n s.count l
+  Kept l (Err _) = length (rows_of l) ≡ n
 
-  carried-holds : (m : Mark) (s : State) (r : Record) (l : List ℤ) → Holds n s.count l → Kept (carried_as m s r l)
+  kept-to : (code : ℕ) (s : State) (l : List ℤ) → Holds n s.count l → Kept l (carried_to code s)
+  kept-to code s l h = go (eqb code 0)
+    where
+      go : (t : Bool) → Kept l (cond t (Ok s) (Err code))
+      go true = h
+      go false = h.records
+
+  carried-holds : (m : Mark) (s : State) (r : Record) (l : List ℤ) → Holds n s.count l → Kept (carried_as m s r l).events (carried_as m s r l).done
   unfolding carried_as make_track make_budget move_to set_freqs curve_of set_cycle turn_answer turn_list
-  carried-holds TK s r l h = h
-  carried-holds MX s r l h = h
-  carried-holds TP s r l h = h
-  carried-holds FQ s r l h = h
-  carried-holds OT s r l h = curve-holds (curve_of s r l) h
-  carried-holds CY s r l h = h
-  carried-holds RC s r l h = turn_holds s.track _ s.cycles r.x s.budget l s.count h
-  carried-holds PF s r l h = cut_holds 0 l s.count (plain r.x) h
-  carried-holds Unknown s r l h = h
+  carried-holds TK s r l h = kept-to _ _ _ h
+  carried-holds MX s r l h = kept-to _ _ _ h
+  carried-holds TP s r l h = kept-to _ _ _ h
+  carried-holds FQ s r l h = kept-to _ _ _ h
+  carried-holds OT s r l h = kept-to _ _ _ (curve-holds (curve_of s r l) h)
+  carried-holds CY s r l h = kept-to _ _ _ h
+  carried-holds RC s r l h = kept-to _ _ _ (turn_holds s.track _ s.cycles r.x s.budget l s.count h)
+  carried-holds PF s r l h = kept-to _ _ _ (cut_holds 0 l s.count (plain r.x) h)
 
   -- ---- the whole tape
   abbrev In : Pass → Type 0
@@ -109,14 +118,15 @@ module _ (n : ℕ) where
 
   step-holds : (s : List ℕ) (a : Run) (l : List ℤ) → In (pass a l) → In (step_of s a l)
   unfolding step_by
-  step-holds s a l h =
-      let r = record_at s a.at a.due in
-      let k = carried-holds r.mark a.state r l h in
-      let t = carried a.state r l in
-      either (eqb r.code 0) (after_call s a r t) (pass (refused a r.code (length s)) l)
-      (either (eqb t.done.code 0) (pass (past a r.next t.done.state) t.events) (pass (refused a t.done.code (length s)) t.events) k
-      (record { few = h.few; records = k.records }))
-      h
+  step-holds s a l h = go (record_at s a.at a.due)
+    where
+      each : (r : Record) (e : List ℤ) (d : Result State ℕ) → Kept e d → In (after_done s a r e d)
+      each r e (Ok y) k = k
+      each r e (Err m) k = record { few = h.few; records = k }
+
+      go : (x : Result Record Refusal) → In (after_record s a l x)
+      go (Ok r) = each r (carried a.state r l).events (carried a.state r l).done (carried-holds r.mark a.state r l h)
+      go (Err e) = h
 
   from-holds : (left : ℕ) (s : List ℕ) (p : Pass) → In p → In (play_from left s p)
   unfolding play_from_by

@@ -1,20 +1,19 @@
 -- What one record leaves, on its definition, in the order of its tests; and how far it gets.
 --     parts, joined                     a pass by its two parts
---     record-few                        a record that was read has no more numbers than a list may have
 --     unread, refused-call, done-call   a step's three ways out
 --     blank-by                          a state, put together
 --     moves                             a step gets on, and counts at most one record
 use mathlib.Core.Path.{◌≡◌, refl, ap, ◌∙◌}
-use mathlib.Core.Bool.{Bool, true, false, cond}
 use mathlib.Core.List.{List}
 use Prim.Native.Nat.{ℕ, ◌+◌, ◌≤◌, ◌<◌}
 use native.Mathlib.Omega.{arith}
-use lib.Dec.{eqb}
 use lib.IntN.{ℤ, pos}
 use lib.ListN.{length}
-use borrow.Author.Tests.{eq-eqb, ne_eqb, eqb-true}
+use Rattle.std.specs.Prelude.{Result, Ok, Err}
 use Rattle.laws.specs.Integers.{inside}
 use Rattle.numbers.specs.Limits.{list_limit}
+use Rattle.numbers.specs.Refusals.{number_of}
+use Rattle.numbers.specs.declared.refusals.Refusal.{Refusal}
 use Rattle.numbers.specs.Ranges.{is_timebase, is_bytes}
 use Rattle.budget.specs.declared.BudgetAnswer.{BudgetAnswer}
 use Rattle.budget.specs.Budgets.{unspent, new_budget}
@@ -23,14 +22,12 @@ use Rattle.state.specs.declared.TrackAnswer.{TrackAnswer}
 use Rattle.state.specs.Track.{new_track, no_cycles}
 use Rattle.state.specs.Calls.{new_of, answered}
 use Rattle.reel.specs.declared.records.Record.{Record}
-use Rattle.reel.specs.Records.{behind, mark_at, count_at, record_by, record_at}
-use Rattle.reel.proofs.Listing.{length-numbers}
-use Rattle.reel.proofs.Reading.{fault-none}
-use Rattle.reel.proofs.Reaching.{read_none, record-next}
-use Rattle.carrying.specs.declared.Carried.{Carried}
+use Rattle.reel.specs.Records.{record_at}
+use Rattle.reel.proofs.Reaching.{reached}
+use Rattle.carrying.specs.declared.State.{State}
 use Rattle.carrying.specs.Carry.{Left, left, carried, state_of}
 use Rattle.spool.specs.declared.Run.{Run}
-use Rattle.spool.specs.Play.{blank_state, refused, past, Pass, pass, after_call, after_record, step_by, step_of}
+use Rattle.spool.specs.Play.{blank_state, refused, past, Pass, pass, after_done, after_call, after_record, step_by, step_of}
 
 pub parts : {a : Run} {l : List ℤ} {p : Pass} → pass a l ≡ p → (a ≡ p.run) × (l ≡ p.events)
 parts h = (ap (λ (q : Pass). q.run) h, ap (λ (q : Pass). q.events) h)
@@ -42,42 +39,26 @@ parts-by q h = let k = parts h in (q ∙ k.0, k.1)
 pub joined : {a : Run} {l : List ℤ} {p : Pass} → a ≡ p.run → l ≡ p.events → pass a l ≡ p
 joined h k = rw (h, k)
 
-pub left_by_lem : {k : Carried} {x : List ℤ} {t : Left} → k ≡ t.done → x ≡ t.events → left k x ≡ t
+pub left_by_lem : {k : Result State ℕ} {x : List ℤ} {t : Left} → k ≡ t.done → x ≡ t.events → left k x ≡ t
 left_by_lem h k = rw (h, k)
 
-pub record-few : (s : List ℕ) (p due : ℕ) → (record_at s p due).code ≡ 0 → (record_at s p due).list.count ≤ list_limit
-unfolding record_by
-record-few s p due h =
-    let z = read_none list_limit s p due h in
-    let f = fault-none list_limit s p due z in
-    let m = mark_at s p in
-    rw (eq-eqb _ _ z) (omega (arith, f.few, length-numbers s (behind p m) (count_at s p m)))
-
-module _ (s : List ℕ) (a : Run) (l : List ℤ) (r : Record) (e : r ≡ record_at s a.at a.due) where
-  opened : after_record s a l r ≡ step_of s a l
+module _ (s : List ℕ) (a : Run) (l : List ℤ) where
+  opened : (r : Result Record Refusal) → r ≡ record_at s a.at a.due → after_record s a l r ≡ step_of s a l
   unfolding step_by
-  opened = ap (after_record s a l) e
+  opened r e = ap (after_record s a l) e
 
-  pub unread : (r.code ≡ 0 → ⊥) → pass (refused a r.code (length s)) l ≡ step_of s a l
-  unread n =
-      let g : pass (refused a r.code (length s)) l ≡ after_record s a l r = rw (ne_eqb r.code 0 n) in
-      g ∙ opened
+  pub unread : (e : Refusal) → Err e ≡ record_at s a.at a.due → pass (refused a (number_of e) (length s)) l ≡ step_of s a l
+  unread e h = opened (Err e) h
 
-  module _ (z : r.code ≡ 0) (k : Carried) (x : List ℤ) (t : left k x ≡ carried a.state r l) where
-    called : after_call s a r (left k x) ≡ step_of s a l
-    called =
-        let g : after_call s a r (carried a.state r l) ≡ after_record s a l r = rw (eq-eqb r.code 0 z) in
-        ap (after_call s a r) t ∙ g ∙ opened
+  module _ (r : Record) (z : Ok r ≡ record_at s a.at a.due) (x : List ℤ) where
+    called : (k : Result State ℕ) → left k x ≡ carried a.state r l → after_done s a r x k ≡ step_of s a l
+    called k t = ap (after_call s a r) t ∙ opened (Ok r) z
 
-    pub refused-call : (k.code ≡ 0 → ⊥) → pass (refused a k.code (length s)) x ≡ step_of s a l
-    refused-call n =
-        let g : pass (refused a k.code (length s)) x ≡ after_call s a r (left k x) = rw (ne_eqb k.code 0 n) in
-        g ∙ called
+    pub refused-call : (n : ℕ) → left (Err n) x ≡ carried a.state r l → pass (refused a n (length s)) x ≡ step_of s a l
+    refused-call n t = called (Err n) t
 
-    pub done-call : k.code ≡ 0 → pass (past a r.next k.state) x ≡ step_of s a l
-    done-call n =
-        let g : pass (past a r.next k.state) x ≡ after_call s a r (left k x) = rw (eq-eqb k.code 0 n) in
-        g ∙ called
+    pub done-call : (y : State) → left (Ok y) x ≡ carried a.state r l → pass (past a r.next y) x ≡ step_of s a l
+    done-call y t = called (Ok y) t
 
 -- ---- the parts of a run, put together
 no-track : (new_of (pos 0) (pos 0)).track ≡ new_track (pos 0) (pos 0)
@@ -92,26 +73,18 @@ pub blank-by : {t : TrackAnswer} {c : CycleTable} {b : BudgetAnswer} → t ≡ n
 unfolding blank_state
 blank-by p q r = rw (p, q, r, no-track, no_bytes)
 
--- what holds of both of a choice holds of the choice
-pub of-both : (P : Pass → Type 0) (b : Bool) (x y : Pass) → (b ≡ true → P x) → P y → P (cond b x y)
-of-both P true x y f g = f refl
-of-both P false x y f g = g
-
 module _ (s : List ℕ) (a : Run) (l : List ℤ) (h : a.at < length s) where
   abbrev On : Pass → Type 0
   On p = (a.at < p.run.at) × (p.run.index ≤ a.index + 1)
 
-  abbrev R : Record
-  R = record_at s a.at a.due
-
-  abbrev K : Left
-  K = carried a.state R l
-
   pub moves : On (step_of s a l)
   unfolding step_by
-  moves =
-      of-both On (eqb R.code 0) (after_call s a R K) (pass (refused a R.code (length s)) l)
-      (λ z. of-both On (eqb K.done.code 0) (pass (past a R.next K.done.state) K.events) (pass (refused a K.done.code (length s)) K.events)
-      (λ _. (let n = record-next list_limit s a.at a.due (eqb-true _ _ z) in omega (arith, n.0), omega arith))
-      (h, omega arith))
-      (h, omega arith)
+  moves = go (record_at s a.at a.due) refl
+    where
+      each : (r : Record) → record_at s a.at a.due ≡ Ok r → (e : List ℤ) (d : Result State ℕ) → On (after_done s a r e d)
+      each r z e (Ok y) = let n = reached list_limit s a.at a.due r z in (omega (arith, n.past), omega arith)
+      each r z e (Err m) = (h, omega arith)
+
+      go : (x : Result Record Refusal) → record_at s a.at a.due ≡ x → On (after_record s a l x)
+      go (Ok r) e = each r e (carried a.state r l).events (carried a.state r l).done
+      go (Err e) _ = (h, omega arith)

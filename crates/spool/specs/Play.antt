@@ -1,8 +1,10 @@
 -- 01, "The tape program": a tape, record by record. "A refusal prints only `refused N at K`": the first record that is refused
 -- ends the tape. As in `reel`, the definitions ..By have the limit of a list first, and those that the code is held to are
 -- these at `list_limit`.
-use Rattle.std.specs.Prelude.{cond, ◌&&◌, List, ℕ, zero, suc, ◌+◌, eqb, ltb, ℤ, pos, length}
+use Rattle.std.specs.Prelude.{cond, ◌&&◌, Result, Ok, Err, List, ℕ, zero, suc, ◌+◌, eqb, ltb, ℤ, pos, length}
 use Rattle.numbers.specs.Limits.{list_limit}
+use Rattle.numbers.specs.Refusals.{number_of}
+use Rattle.numbers.specs.declared.refusals.Refusal.{Refusal}
 use Rattle.budget.specs.Budgets.{unspent}
 use Rattle.state.specs.Track.{new_track, no_cycles}
 use Rattle.reel.specs.Limits.{tape_limit}
@@ -37,14 +39,16 @@ pub record Pass : Type 0 where
 abbrev pub pass : Run → List ℤ → Pass
 pass a l = record { run = a; events = l }
 
-abbrev pub after_call : List ℕ → Run → Record → Left → Pass
-after_call s a r k =
-    cond (eqb k.done.code 0) (pass (past a r.next k.done.state) k.events)
-    (pass (refused a k.done.code (length s)) k.events)
+abbrev pub after_done : List ℕ → Run → Record → List ℤ → Result State ℕ → Pass
+after_done s a r l (Ok x) = pass (past a r.next x) l
+after_done s a r l (Err n) = pass (refused a n (length s)) l
 
-abbrev pub after_record : List ℕ → Run → List ℤ → Record → Pass
-after_record s a l r =
-    cond (eqb r.code 0) (after_call s a r (carried a.state r l)) (pass (refused a r.code (length s)) l)
+abbrev pub after_call : List ℕ → Run → Record → Left → Pass
+after_call s a r k = after_done s a r k.events k.done
+
+abbrev pub after_record : List ℕ → Run → List ℤ → Result Record Refusal → Pass
+after_record s a l (Ok r) = after_call s a r (carried a.state r l)
+after_record s a l (Err e) = pass (refused a (number_of e) (length s)) l
 
 -- one record: read, then carried out
 unfoldable pub step_by : ℕ → List ℕ → Run → List ℤ → Pass

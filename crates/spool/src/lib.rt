@@ -5,6 +5,7 @@
 ghost use Rattle.std.specs.Prelude.{◌≡◌, ◌+◌, ◌≤◌, ◌<◌, length};
 ghost use Rattle.reel.specs.Limits.{tape_limit};
 ghost use Rattle.reel.specs.Places.{more_due};
+ghost use Rattle.text.specs.Laying.{laid};
 ghost use Rattle.lines.specs.Puts.{Puts};
 ghost use Rattle.spool.specs.Play.{blank_state, begun, refused, past, step_of, ended, play_of, printed};
 
@@ -13,9 +14,16 @@ use carrying::{State, carry_out};
 use lines::{Ending, put_end};
 use reel::record_at;
 use state::{Track, no_cycles};
+use std::io::{Print, Result, Stdout};
 
 // How many bytes a tape may have.
 pub const TAPE_LIMIT: usize = 16384;
+
+// Room for a tape: one byte more than it may have, so that a longer one shows.
+pub const TAPE_ROOM: usize = 16385;
+
+// Room for a tape's events: 512 records of eight numbers.
+pub const LIST_ROOM: usize = 4096;
 
 // `at` is the place on the tape, `index` the number of the record that stands there, `due` how many of TK and MX were read.
 // A run that was refused has its number in `code`, and its place is the tape's end.
@@ -90,15 +98,13 @@ fn step(run: Run, tape: &[u8], events: &mut [i64]) -> Run
     requires { (run.index ≤ run.at) × (run.at < length tape.now) × (length tape.now ≤ tape_limit) }
     ensures { (result ≡ (step_of tape.now run events.old).run) × (events.new ≡ (step_of tape.now run events.old).events) }
 {
-    let r = record_at(tape, run.at, run.due);
-    if r.code != 0 {
-        return refuse(run, r.code, tape.len());
+    match record_at(tape, run.at, run.due) {
+        Err(refusal) => refuse(run, refusal.number(), tape.len()),
+        Ok(r) => match carry_out(run.state, r, events) {
+            Err(code) => refuse(run, code, tape.len()),
+            Ok(state) => pass_on(run, r.next, state),
+        },
     }
-    let k = carry_out(run.state, r, events);
-    if k.code != 0 {
-        return refuse(run, k.code, tape.len());
-    }
-    pass_on(run, r.next, k.state)
 }
 
 // The run at the tape's end: a TK or MX that is missing is missed here.
@@ -141,4 +147,16 @@ pub fn print_tape(tape: &[u8], events: &mut [i64], page: &mut [u8]) -> usize
         budget: run.state.budget,
     };
     put_end(page, ending, events)
+}
+
+// Plays a tape on an empty list, puts what is printed of it at the front of `page`, and writes that.
+pub fn write_tape(to: Stdout, tape: &[u8], events: &mut [i64], page: &mut [u8]) -> Result<()>
+    ensures page_after { page.new ≡ laid 0 (printed tape.now events.old page.old) page.old }
+    ensures events_after { events.new ≡ (play_of tape.now events.old).events }
+{
+    let long = print_tape(tape, events, page);
+    match page.get(..long) {
+        Some(text) => to.write_all(text),
+        None => Ok(()),
+    }
 }

@@ -14,7 +14,7 @@ use Rattle.numbers.specs.Refusals.{told}
 use Rattle.reserved.specs.Setting.{demand}
 use Rattle.state.specs.declared.Track.{Track}
 use Rattle.state.specs.Calls.{answer, answered}
-use Rattle.state.proofs.Told.{told-well, told-ill}
+use Rattle.numbers.proofs.Asking.{told-well, told-ill}
 
 module _ {ok : Bool} (a b : Track) where
   pub refused : ok ≡ false → answer 4 a ≡ answered (demand ok) a b

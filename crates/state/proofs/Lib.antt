@@ -1,5 +1,3 @@
-pub mod Chains
-pub mod Told
 pub mod Answers
 pub mod Counts
 pub mod Parts

@@ -54,7 +54,7 @@ pub struct Track {
 #[repr(C)]
 #[derive(Clone, Copy)]
 pub struct TrackAnswer {
-    pub code: u32,
+    pub code: u32, // a number beside what it goes with: C reads this record
     pub track: Track,
 }
 

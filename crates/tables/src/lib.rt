@@ -22,7 +22,7 @@ use numbers::Refusal;
 // How many reservations there may be in all.
 const KEYS: usize = PLACES * 4;
 
-// What a wave does with its lengths at a note.
+// What a wave does with its lengths at a note: numbers, since C lends a wave's record.
 pub const NORMAL: u32 = 0;
 
 pub const EXPAND: u32 = 1;
@@ -64,7 +64,7 @@ pub struct OnNoteSine {
 #[repr(C)]
 #[derive(Clone, Copy)]
 pub struct SineAnswer {
-    pub code: u32,
+    pub code: u32, // a number beside what it goes with: C reads this record
     pub sine: OnNoteSine,
 }
 

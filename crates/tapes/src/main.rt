@@ -3,36 +3,15 @@
 // inside a tape, or inside a length, one line says so, and nothing of that tape is played.
 #![tactic(auto)]
 
-ghost use Rattle.std.specs.Prelude.{◌≡◌, ◌+◌, ◌≤◌, ◌<◌, length};
+ghost use Rattle.std.specs.Prelude.{◌≤◌};
 
 use lines::PAGE;
+use spool::{LIST_ROOM, TAPE_ROOM, write_tape};
 use std::io::{Print, Result, Stdin, Stdout};
 use streams::read_full;
 
 // A stream has at most so many tapes.
 const MOST_TAPES: u64 = 100000000;
-
-// One byte more than a tape may have, so that a longer one shows.
-const LONGEST: usize = 16385;
-
-fn no_tape() -> [u8; LONGEST]
-    ensures { 16385 ≡ length result }
-{
-    [0; LONGEST]
-}
-
-// 512 records of eight numbers.
-fn no_events() -> [i64; 4096]
-    ensures { 4096 ≡ length result }
-{
-    [0; 4096]
-}
-
-fn blank_page() -> [u8; PAGE]
-    ensures { 67697 ≡ length result }
-{
-    [0; PAGE]
-}
 
 // How long the next tape of a stream is; at the stream's end, how many bytes of a length there were.
 fn next_length(from: &mut Stdin) -> std::result::Result<usize, usize> {
@@ -62,23 +41,16 @@ fn skip_part(from: &mut Stdin, left: usize) -> usize
     read_front(from, &mut space, n)
 }
 
-// What is left after a part: nothing where there was none.
-fn rest_of(left: usize, part: usize) -> usize
-    requires { (0 < left) × (part ≤ left) }
-    ensures { (result < left) × (part + result ≤ left) }
-{
-    if part == 0 { 0 } else { left - part }
-}
-
-// Passes over n bytes, or as many as there are; answers how many.
+// Passes over n bytes, or as many as there are; answers how many. Each part but the last has some.
 fn skip(from: &mut Stdin, n: usize) -> usize
     ensures { result ≤ n }
 {
     let mut done: usize = 0;
-    let mut left = n;
-    while 0 < left {
-        let part = skip_part(from, left);
-        left = rest_of(left, part);
+    for _ in 0..n {
+        let part = skip_part(from, n - done);
+        if part == 0 {
+            break;
+        }
         done += part;
     }
     done
@@ -86,30 +58,11 @@ fn skip(from: &mut Stdin, n: usize) -> usize
 
 // Reads a tape of `long` bytes, those that show what it is to the front of `space`; answers how many there were.
 fn read_tape(from: &mut Stdin, space: &mut [u8], long: usize) -> usize {
-    let n = read_front(from, space, long.min(LONGEST));
-    if n < LONGEST || long <= LONGEST {
+    let n = read_front(from, space, long.min(TAPE_ROOM));
+    if n < TAPE_ROOM || long <= TAPE_ROOM {
         n
     } else {
-        LONGEST + skip(from, long - LONGEST)
-    }
-}
-
-fn write_front(to: Stdout, page: &[u8], n: usize) -> Result<()> {
-    match page.get(..n) {
-        Some(front) => to.write_all(front),
-        None => Ok(()),
-    }
-}
-
-// Plays the tape that the first n bytes of `space` are, on an empty list.
-fn print_first(to: Stdout, space: &[u8], n: usize, page: &mut [u8]) -> Result<()> {
-    match space.get(..n) {
-        Some(tape) => {
-            let mut events = no_events();
-            let long = spool::print_tape(tape, &mut events, page);
-            write_front(to, page, long)
-        }
-        None => Ok(()),
+        TAPE_ROOM + skip(from, long - TAPE_ROOM)
     }
 }
 
@@ -122,7 +75,7 @@ fn print_end(to: Stdout, inside: &str, there: usize, long: usize) -> Result<()> 
 fn play_next(
     from: &mut Stdin,
     to: Stdout,
-    space: &mut [u8],
+    space: &mut [u8; TAPE_ROOM],
     page: &mut [u8],
     long: usize,
 ) -> Result<bool> {
@@ -131,12 +84,18 @@ fn play_next(
         print_end(to, "tape: ", there, long)?;
         return Ok(false);
     }
-    print_first(to, space, long.min(LONGEST), page)?;
+    let mut events = [0; LIST_ROOM];
+    write_tape(to, &space[..long.min(TAPE_ROOM)], &mut events, page)?;
     Ok(true)
 }
 
 // Reads and plays the next tape; false at the stream's end.
-fn turn(from: &mut Stdin, to: Stdout, space: &mut [u8], page: &mut [u8]) -> Result<bool> {
+fn turn(
+    from: &mut Stdin,
+    to: Stdout,
+    space: &mut [u8; TAPE_ROOM],
+    page: &mut [u8],
+) -> Result<bool> {
     match next_length(from) {
         Ok(long) => play_next(from, to, space, page, long),
         Err(n) => {
@@ -148,7 +107,12 @@ fn turn(from: &mut Stdin, to: Stdout, space: &mut [u8], page: &mut [u8]) -> Resu
     }
 }
 
-fn play_all(from: &mut Stdin, to: Stdout, space: &mut [u8], page: &mut [u8]) -> Result<()> {
+fn play_all(
+    from: &mut Stdin,
+    to: Stdout,
+    space: &mut [u8; TAPE_ROOM],
+    page: &mut [u8],
+) -> Result<()> {
     for _ in 0..MOST_TAPES {
         if !turn(from, to, space, page)? {
             break;
@@ -159,7 +123,7 @@ fn play_all(from: &mut Stdin, to: Stdout, space: &mut [u8], page: &mut [u8]) -> 
 
 fn main(rt: HostRuntime) -> Result<()> {
     let mut from = rt.stdin();
-    let mut space = no_tape();
-    let mut page = blank_page();
+    let mut space = [0; TAPE_ROOM];
+    let mut page = [0; PAGE];
     play_all(&mut from, rt.stdout(), &mut space, &mut page)
 }

@@ -49,7 +49,7 @@ pub struct Written {
 #[repr(C)]
 #[derive(Clone, Copy)]
 pub struct Outcome {
-    pub code: u32,
+    pub code: u32, // a number beside what it goes with: C reads this record
     pub count: usize,
     pub budget: Budget,
 }

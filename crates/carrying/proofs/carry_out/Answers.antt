@@ -1,4 +1,4 @@
-use Rattle.reel.specs.declared.marks.Mark.TheVariants.{Track, Budget, Time, Freqs, Curve, Cycle, Turn, Cut, Unknown}
+use Rattle.reel.specs.declared.marks.Mark.TheVariants.{Track, Budget, Time, Freqs, Curve, Cycle, Turn, Cut}
 use Rattle.carrying.proofs.Carrying.{by-mark}
 use mathlib.Core.Path.{refl}
 use Rattle.carrying.specs.Carry.{carried_as}
@@ -54,9 +54,3 @@ returns-in-Cut c =
     let a = c.args in
     let e = c.cut.ensures in
     by-mark a.state a.r a.events.now Cut c.in-Cut.is e.0 e.1
-
-pub returns-in-Unknown : goal.returns-in-Unknown
-unfolding carried_as
-returns-in-Unknown c =
-    let a = c.args in
-    by-mark a.state a.r a.events.now Unknown c.in-Unknown.is refl refl

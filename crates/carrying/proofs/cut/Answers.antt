@@ -14,4 +14,4 @@ returns c =
     let l = a.events.now in
     let n = a.state.count in
     let e = c.play_from-t.ensures in
-    (ap (cut_to a.state) (e.0 ∙ ap (λ (z : ℤ). cut_taken 0 l n (plain z)) x), e.1 ∙ ap (λ (z : ℤ). cut_left 0 l n (plain z)) x)
+    (c.carried_to.ensures ∙ ap (cut_to a.state) (e.0 ∙ ap (λ (z : ℤ). cut_taken 0 l n (plain z)) x), e.1 ∙ ap (λ (z : ℤ). cut_left 0 l n (plain z)) x)

@@ -17,6 +17,6 @@ returns c =
     let v = take a.n a.items.now in
     let l = a.events.now in
     let e = c.write_on_time-o.ensures in (
-      ap (drawn_to a.state) (e.answer ∙ ap (λ (z : ℤ). draw_answer (on_time a.state.track z v a.state.budget l a.state.count 0)) x),
+      c.carried_to.ensures ∙ ap (drawn_to a.state) (e.answer ∙ ap (λ (z : ℤ). draw_answer (on_time a.state.track z v a.state.budget l a.state.count 0)) x),
       e.left ∙ ap (λ (z : ℤ). draw_left (on_time a.state.track z v a.state.budget l a.state.count 0)) x,
     )

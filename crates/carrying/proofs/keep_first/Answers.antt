@@ -11,4 +11,4 @@ pub returns : goal.returns
 returns c =
     let x = to_z-of_z c.ranges.target in
     let y = to_z-of_z c.ranges.len in
-    ap (kept_to c.args.state) (c.set_on_cycle-k.ensures ∙ rw (x, y))
+    c.carried_to.ensures ∙ ap (kept_to c.args.state) (c.set_on_cycle-k.ensures ∙ rw (x, y))

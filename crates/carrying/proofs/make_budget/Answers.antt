@@ -12,4 +12,4 @@ returns c =
     let a = c.args in
     let x = back w32 a.r.x (omega arith) in
     let y = back w32 a.r.y (omega arith) in
-    ap (budget_answered a.state) (c.new-b.ensures ∙ ap₂ new_budget (c.bits_of-seed.ensures ∙ rw y) (c.bits_of-maximum.ensures ∙ rw x))
+    c.carried_to.ensures ∙ ap (budget_answered a.state) (c.new-b.ensures ∙ ap₂ new_budget (c.bits_of-seed.ensures ∙ rw y) (c.bits_of-maximum.ensures ∙ rw x))

@@ -11,4 +11,4 @@ unfolding move_to
 returns c =
     let a = c.args in
     let x = back w64 c.widened.result c.widened.type_inv ∙ c.widened.ensures.0 ∙ (back w32 a.r.x (omega arith)) in
-    ap (track_answered a.state) (c.set_timepos-t.ensures ∙ ap (set_timepos a.state.track) x)
+    c.carried_to.ensures ∙ ap (track_answered a.state) (c.set_timepos-t.ensures ∙ ap (set_timepos a.state.track) x)

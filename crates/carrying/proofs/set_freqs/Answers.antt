@@ -11,4 +11,4 @@ returns c =
     let a = c.args in
     let x = back w32 a.r.x (omega arith) in
     let y = back w32 a.r.y (omega arith) in
-    ap (track_answered a.state) (c.both_freqs-t.ensures ∙ rw (x, y))
+    c.carried_to.ensures ∙ ap (track_answered a.state) (c.both_freqs-t.ensures ∙ rw (x, y))

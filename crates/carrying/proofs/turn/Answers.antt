@@ -16,4 +16,4 @@ returns c =
     let l = a.events.now in
     let s = a.state in
     let e = c.write_cc_on_cycle-k.ensures in
-    (ap (cycled_to s) (e.0 ∙ ap (λ (z : ℤ). cycled_of s.track places s.cycles z s.budget l s.count) x), e.1 ∙ ap (λ (z : ℤ). cycled_list s.track places s.cycles z s.budget l s.count) x)
+    (c.carried_to.ensures ∙ ap (cycled_to s) (e.0 ∙ ap (λ (z : ℤ). cycled_of s.track places s.cycles z s.budget l s.count) x), e.1 ∙ ap (λ (z : ℤ). cycled_list s.track places s.cycles z s.budget l s.count) x)

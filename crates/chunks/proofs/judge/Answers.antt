@@ -2,7 +2,7 @@
 use Rattle.std.proofs.Common.{◌∙◌, sym, arith}
 use Rattle.std.proofs.lemmas.Result.{err_from_is_err_and}
 use Rattle.eventlist.proofs.Sound.{list-within}
-use Rattle.chunks.proofs.Asking.{asked-no, asked-yes}
+use Rattle.numbers.proofs.Asking.{asked-no, asked-yes}
 use Rattle.chunks.proofs.Refusing.{room-length, no-list, listed}
 use Rattle.chunks.proofs.judge.Goals as goal
 

@@ -5,7 +5,7 @@ use lib.Seq.{length-take-le}
 use Rattle.eventlist.specs.Rows.{rows_of, events_of}
 use Rattle.eventlist.proofs.EventRows.{length-rows_of}
 use Rattle.events.proofs.Stored.{storable}
-use Rattle.chunks.proofs.Asking.{asked-no, asked-yes}
+use Rattle.numbers.proofs.Asking.{asked-no, asked-yes}
 use Rattle.chunks.proofs.Passes.{next_of, weigh-begun, weigh-failed, weigh-passed, weigh-ended}
 use Rattle.chunks.proofs.weigh.Goals as goal
 

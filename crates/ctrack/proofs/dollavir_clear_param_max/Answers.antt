@@ -1,12 +1,5 @@
 -- `dollavir_clear_param_max` is `playing::clear_param_max`: what it answers and leaves is what that says.
-use Rattle.state.specs.declared.TrackAnswer.{TrackAnswer}
-use mathlib.Core.Path.{ap, ◌∙◌}
 use Rattle.ctrack.proofs.dollavir_clear_param_max.Goals as goal
 
 pub returns : goal.returns
-returns c =
-    let e = c.clear_param_max-r.ensures in
-    record {
-      code = c.track_answer_code.ensures ∙ ap (λ (a : TrackAnswer). a.code) e;
-      track = c.track_answer_track.ensures ∙ ap (λ (a : TrackAnswer). a.track) e;
-    }
+returns c = rw (c.clear_param_max.ensures) at c.leave_track.ensures

@@ -1,16 +1,8 @@
 -- `dollavir_remove_pb_on_note_wave` is `loans::remove_reserve`: what it answers and leaves is what that says.
-use Rattle.state.specs.declared.TrackAnswer.{TrackAnswer}
-use borrow.Author.Rules.{sfits_of}
-use mathlib.Core.Path.{ap, ◌∙◌}
-use mir.Facts.{to_z-of_z}
-use mir.Syntax.{w32}
 use Rattle.ctrack.proofs.dollavir_remove_pb_on_note_wave.Goals as goal
 
 pub returns : goal.returns
 returns c =
-    let e = rw (to_z-of_z {w = w32} (sfits_of c.bend-target.type_inv), c.bend-target.ensures) at c.remove_reserve-r.ensures in
-    record {
-      code = c.track_answer_code.ensures ∙ ap (λ (a : TrackAnswer). a.code) e.answer;
-      track = c.track_answer_track.ensures ∙ ap (λ (a : TrackAnswer). a.track) e.answer;
-      cycles = e.left;
-    }
+    let e = c.remove_reserve.ensures in
+    let t = rw (e.answer) at c.leave_track.ensures in
+    record { code = t.code; track = t.track; cycles = e.left }

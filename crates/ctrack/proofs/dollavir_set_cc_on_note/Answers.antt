@@ -1,16 +1,11 @@
 -- `dollavir_set_cc_on_note` is `loans::set_on_note`: what it answers and leaves is what that says.
-use Rattle.state.specs.declared.TrackAnswer.{TrackAnswer}
 use borrow.Author.Rules.{sfits_of}
-use mathlib.Core.Path.{ap, ◌∙◌}
 use mir.Facts.{to_z-of_z}
 use mir.Syntax.{w32}
 use Rattle.ctrack.proofs.dollavir_set_cc_on_note.Goals as goal
 
 pub returns : goal.returns
 returns c =
-    let e = rw (to_z-of_z {w = w32} (sfits_of c.cc_target-target.type_inv), c.cc_target-target.ensures, to_z-of_z c.ranges.number) at c.set_on_note-r.ensures in
-    record {
-      code = c.track_answer_code.ensures ∙ ap (λ (a : TrackAnswer). a.code) e.answer;
-      track = c.track_answer_track.ensures ∙ ap (λ (a : TrackAnswer). a.track) e.answer;
-      cycles = e.left;
-    }
+    let e = rw (to_z-of_z {w = w32} (sfits_of c.cc_target.type_inv), c.cc_target.ensures, to_z-of_z c.ranges.number) at c.set_on_note-r.ensures in
+    let t = rw (e.answer) at c.leave_track.ensures in
+    record { code = t.code; track = t.track; cycles = e.left }

@@ -1,13 +1,6 @@
 -- `dollavir_set_delay` is `drawing::set_delay`: what it answers and leaves is what that says.
-use Rattle.state.specs.declared.TrackAnswer.{TrackAnswer}
-use mathlib.Core.Path.{ap, ◌∙◌}
 use mir.Facts.{to_z-of_z}
 use Rattle.ctrack.proofs.dollavir_set_delay.Goals as goal
 
 pub returns : goal.returns
-returns c =
-    let e = rw (to_z-of_z c.ranges.target, to_z-of_z c.ranges.delay) at c.set_delay-r.ensures in
-    record {
-      code = c.track_answer_code.ensures ∙ ap (λ (a : TrackAnswer). a.code) e;
-      track = c.track_answer_track.ensures ∙ ap (λ (a : TrackAnswer). a.track) e;
-    }
+returns c = rw (c.set_delay.ensures, to_z-of_z c.ranges.target, to_z-of_z c.ranges.delay) at c.leave_track.ensures

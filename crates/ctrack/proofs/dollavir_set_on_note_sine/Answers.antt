@@ -1,14 +1,9 @@
 -- `dollavir_set_on_note_sine` is `loans::set_on_note_sine`: what it answers and leaves is what that says.
-use Rattle.state.specs.declared.TrackAnswer.{TrackAnswer}
-use mathlib.Core.Path.{ap, ◌∙◌}
 use mir.Facts.{to_z-of_z}
 use Rattle.ctrack.proofs.dollavir_set_on_note_sine.Goals as goal
 
 pub returns : goal.returns
 returns c =
-    let e = rw (to_z-of_z c.ranges.target) at c.set_on_note_sine-r.ensures in
-    record {
-      code = c.track_answer_code.ensures ∙ ap (λ (a : TrackAnswer). a.code) e.answer;
-      track = c.track_answer_track.ensures ∙ ap (λ (a : TrackAnswer). a.track) e.answer;
-      cycles = e.left;
-    }
+    let e = rw (to_z-of_z c.ranges.target) at c.set_on_note_sine.ensures in
+    let t = rw (e.answer) at c.leave_track.ensures in
+    record { code = t.code; track = t.track; cycles = e.left }

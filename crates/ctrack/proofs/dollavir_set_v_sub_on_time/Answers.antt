@@ -1,12 +1,5 @@
 -- `dollavir_set_v_sub_on_time` is `playing::set_v_sub_on_time`: what it answers and leaves is what that says.
-use Rattle.state.specs.declared.TrackAnswer.{TrackAnswer}
-use mathlib.Core.Path.{ap, ◌∙◌}
 use Rattle.ctrack.proofs.dollavir_set_v_sub_on_time.Goals as goal
 
 pub returns : goal.returns
-returns c =
-    let e = c.set_v_sub_on_time-r.ensures in
-    record {
-      code = c.track_answer_code.ensures ∙ ap (λ (a : TrackAnswer). a.code) e;
-      track = c.track_answer_track.ensures ∙ ap (λ (a : TrackAnswer). a.track) e;
-    }
+returns c = rw (c.set_v_sub_on_time.ensures) at c.leave_track.ensures

@@ -1,6 +1,6 @@
 -- `dollavir_write_cc_on_note` is `noting::write_cc_on_note`: what it answers and leaves is what that says.
 use Rattle.noting.specs.declared.Noted.{Noted}
-use mathlib.Core.Path.{ap, ◌∙◌}
+use mathlib.Core.Path.{ap}
 use mir.Facts.{to_z-of_z}
 use Rattle.ctrack.proofs.dollavir_write_cc_on_note.Goals as goal
 
@@ -8,9 +8,9 @@ pub returns : goal.returns
 returns c =
     let e = rw (to_z-of_z c.ranges.start) at c.write_cc_on_note-r.ensures in
     record {
-      code = c.noted_code.ensures ∙ ap (λ (a : Noted). a.code) e.0;
-      count = c.noted_count.ensures ∙ ap (λ (a : Noted). a.count) e.0;
-      budget = c.noted_budget.ensures ∙ ap (λ (a : Noted). a.budget) e.0;
-      track = c.noted_track.ensures ∙ ap (λ (a : Noted). a.track) e.0;
+      code = ap (λ (a : Noted). a.code) e.0;
+      count = ap (λ (a : Noted). a.count) e.0;
+      budget = ap (λ (a : Noted). a.budget) e.0;
+      track = ap (λ (a : Noted). a.track) e.0;
       events = e.1;
     }

@@ -1,5 +1,4 @@
 -- `all_fit` meets its contract: the events passed fit, so that those left decide (laws of Tests).
-use Prim.Native.Nat.{◌-◌, ◌≤◌}
 use Rattle.laws.proofs.Tests.{Left}
 use Rattle.eventlist.specs.Rows.{events_of}
 use Rattle.cutting.specs.Cuts.{fits_cut}

@@ -1,22 +1,17 @@
 -- `is_control` meets its contract: the kind decides, and then the time.
-use borrow.Author.Rules.{rules}
 use mathlib.Core.Path.{ap₂}
 use lib.Signed.{lt_z}
 use mir.Syntax.{w64}
 use native.Mathlib.Omega.{arith}
-use Rattle.laws.proofs.Bits.{bits-eq, bits-differ}
+use Rattle.laws.proofs.Bits.{flag}
 use Rattle.laws.proofs.Fitting.{fit, back}
+use Rattle.laws.proofs.Tests.{both}
 use Rattle.cutting.specs.Cuts.{folds}
 use Rattle.cutting.proofs.KindBits.{control-fits}
 use Rattle.cutting.proofs.is_control.Goals as goal
 
-pub returns-in-2 : goal.returns-in-2
+pub returns : goal.returns
 unfolding folds
-returns-in-2 c =
-    let time = back w64 c.args.e.time (omega arith) in
-    let at = back w64 c.args.c.at (omega arith) in
-    rw (bits-eq (fit w64 c.args.e.kind (omega arith)) control-fits (search rules)) (ap₂ lt_z time at)
-
-pub returns-in_default : goal.returns-in_default
-unfolding folds
-returns-in_default c = rw (bits-differ (fit w64 c.args.e.kind (omega arith)) control-fits (search rules))
+returns c =
+    let e = c.args.e in
+    both (flag (fit w64 e.kind (omega arith)) control-fits) (ap₂ lt_z (back w64 e.time (omega arith)) (back w64 c.args.c.at (omega arith)))

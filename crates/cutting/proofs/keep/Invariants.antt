@@ -1,7 +1,6 @@
 -- `keep` meets its contract: of the first i the n that are kept stand shifted in front (`Moving`), and what is cleared at
 -- the end makes it whole (`settled`).
 use mathlib.Core.Bool.{not}
-use Prim.Native.Nat.{◌-◌}
 use Rattle.events.specs.Events.{zero_event}
 use Rattle.eventlist.specs.Rows.{rows_of}
 use Rattle.cutting.specs.Cuts.{keeps, shifted}

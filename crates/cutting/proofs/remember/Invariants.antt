@@ -1,7 +1,6 @@
 -- `remember` meets its contract: what is remembered is what stands in the first i events, and one more takes it further
 -- (`lasts-more`, `holds_more`).
 use mathlib.Core.Path.{◌≡◌}
-use Prim.Native.Nat.{◌-◌, ◌≤◌}
 use lib.ListN.{take}
 use Rattle.eventlist.specs.Rows.{rows_of}
 use Rattle.cutting.specs.Cuts.{control_at}

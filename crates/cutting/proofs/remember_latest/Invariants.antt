@@ -1,7 +1,6 @@
 -- `remember_latest` meets its contract: what it has after i events is what counts last among them, sorted, and one more takes
 -- it further (`stood-more`, `holds-latest`).
 use mathlib.Core.Path.{◌≡◌}
-use Prim.Native.Nat.{◌-◌, ◌≤◌}
 use lib.ListN.{take}
 use Rattle.eventlist.specs.Rows.{rows_of}
 use Rattle.sorting.specs.Stable.{stable_sort}

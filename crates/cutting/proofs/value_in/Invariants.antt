@@ -1,6 +1,5 @@
 -- `value_in` meets its contract: what was passed from the end has no say, so that the value is that of the first i.
 use mathlib.Core.Path.{◌≡◌}
-use Prim.Native.Nat.{◌≤◌}
 use lib.ListN.{take}
 use Rattle.eventlist.specs.Rows.{rows_of, events_of}
 use Rattle.cutting.specs.Value.{cc_value}

@@ -2,7 +2,7 @@
 use Rattle.std.proofs.Common.{◌≡◌, sym, ap, ◌∙◌, to_z-of_z}
 use borrow.Author.Tests.{ne_eqb}
 use Rattle.numbers.specs.Refusals.{number_of, told}
-use Rattle.state.proofs.Told.{some-number}
+use Rattle.numbers.proofs.Asking.{some-number}
 use Rattle.drawing.specs.Options.{for_target, target_refusal, option_for}
 use Rattle.drawing.proofs.Refusing.{with-true}
 use Rattle.drawing.proofs.get_write_opt.Goals.{After-ask_target}

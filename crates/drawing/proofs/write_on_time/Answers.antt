@@ -17,7 +17,7 @@ use Rattle.counted.specs.Numbers.{none}
 use Rattle.counted.specs.Curves.{ok_curve}
 use Rattle.writing.proofs.Allowed.{fine}
 use Rattle.numbers.specs.Refusals.{told}
-use Rattle.state.proofs.Told.{some-number}
+use Rattle.numbers.proofs.Asking.{some-number}
 use Rattle.drawing.specs.Write.{write_of}
 use Rattle.drawing.specs.Calls.{Draw, on_time}
 use Rattle.drawing.proofs.Drawn.{asked-first, asked-as, refused, well, allowed-well, ready-draw, count-well, tested}

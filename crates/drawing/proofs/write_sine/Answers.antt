@@ -17,7 +17,7 @@ use Rattle.tables.proofs.Sines.{sine-low, sine-high, sine-length, sine-times}
 use Rattle.writing.specs.Sines.{sine_pieces}
 use Rattle.writing.proofs.Writes.{told_of_lem}
 use Rattle.numbers.specs.Refusals.{told}
-use Rattle.state.proofs.Told.{some-number}
+use Rattle.numbers.proofs.Asking.{some-number}
 use Rattle.drawing.specs.Write.{write_of}
 use Rattle.drawing.specs.Calls.{Draw, sine_for, on_sine}
 use Rattle.drawing.proofs.Drawn.{asked-first, asked-as, refused, allowed-well, ready-draw, count-well, tested}

@@ -32,7 +32,7 @@ use Rattle.state.proofs.Stored.{stored-notes}
 use Rattle.noting.specs.declared.Played.{Played}
 use Rattle.noting.specs.Runs.{Run, run, kept, notes_put, played_of}
 use Rattle.noting.specs.Calls.{run_of, with_notes, list_after, answer, noted, list_left}
-use Rattle.state.proofs.Told.{ask-ok, ask-err}
+use Rattle.numbers.proofs.Asking.{ask-ok, ask-err}
 use Rattle.noting.proofs.Refusing as R
 use Rattle.noting.proofs.write_lists.Goals as goal
 

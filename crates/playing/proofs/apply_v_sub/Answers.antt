@@ -11,4 +11,4 @@ use Rattle.playing.proofs.apply_v_sub.Goals as goal
 pub returns : goal.returns
 returns c =
     let f : SFits w64 c.args.track.timepos = search rules in
-    c.summed_up.ensures ∙ ap (summed_up c.args.track) (c.apply_v_sub-sum.ensures ∙ ap₂ (apply_v_sub c.args.track.layers) (to_z-of_z f) (to_z-of_z c.ranges.velocity))
+    c.summed_up.ensures ∙ ap (summed_up c.args.track) (c.apply_v_sub.ensures ∙ ap₂ (apply_v_sub c.args.track.layers) (to_z-of_z f) (to_z-of_z c.ranges.velocity))

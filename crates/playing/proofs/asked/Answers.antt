@@ -1,16 +1,16 @@
 -- `asked`: by the two tests.
-use borrow.Author.Tests.{eq-eqb, ne_eqb}
+use mathlib.Core.Logic.{⊎_elim}
+use Rattle.std.proofs.Common.{sym, ◌∙◌}
+use borrow.Author.Tests.{ne_eqb}
 use Rattle.playing.specs.Calls.{asked}
+use Rattle.playing.proofs.Answers.{as-too-many, as-well}
 use Rattle.playing.proofs.asked.Goals as goal
 
-pub returns-then-code-eq3 : goal.returns-then-code-eq3
-unfolding asked
-returns-then-code-eq3 c = rw (eq-eqb _ _ c.if-code-eq3.true)
-
 pub returns-then-ok : goal.returns-then-ok
-unfolding asked
-returns-then-ok c = rw (ne_eqb _ _ c.if-code-eq3.false, c.if-ok.true)
+returns-then-ok c = ⊎_elim (λ e. as-too-many c.args.ok (e ∙ c.number.ensures)) (λ w. as-well c.args.code w.1) c.if-ok.either
 
-pub returns : goal.returns
+pub returns-else-ok : goal.returns-else-ok
 unfolding asked
-returns c = rw (ne_eqb _ _ c.if-code-eq3.false, c.if-ok.false)
+returns-else-ok c =
+    let f = c.if-ok.false in
+    rw (c.number-else-ok.ensures, f.1, ne_eqb c.args.code 3 (λ e. f.0 (e ∙ sym c.number.ensures)))

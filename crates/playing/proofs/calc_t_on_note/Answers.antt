@@ -1,16 +1,21 @@
 -- `calc_t_on_note` puts the settled answer of its parameter into the track.
-use mir.Syntax.{w32}
-use mir.Val.{SFits}
-use mir.Facts.{to_z-of_z}
-use borrow.Author.Rules.{rules}
+use Rattle.std.proofs.Common.{rules, ◌≡◌, true, false, sym, ◌∙◌, w32, FitsSigned, to_z-of_z}
+use Rattle.playing.specs.Settled.{listed}
 use Rattle.playing.proofs.Leaving.{settled-on-note, timing-left}
+use Rattle.playing.proofs.calc_t_on_note.Goals.{then-is_listed, else-is_listed}
 use Rattle.playing.proofs.calc_t_on_note.Goals as goal
 
 pub returns : goal.returns
 returns c =
     let a = c.args.track in
-    let e = settled-on-note a a.t c.settled-left.ensures c.track_ok.ensures c.calc_on_note-taken.ensures (to_z-of_z c.ranges.def) in
-    let f : SFits w32 c.settled-left.result.value = search rules in
-    let g : SFits w32 a.timing = search rules in
-    let h : SFits w32 c.value_left.result = search rules in
-    rw (to_z-of_z f, to_z-of_z h) (timing-left a c.args.def c.settled-left.result c.value_left.result e (rw (to_z-of_z g) at c.value_left.ensures))
+    let s = c.settled-left.result in
+    let e = settled-on-note a a.t c.settled-left.ensures c.track_ok.ensures c.calc_on_note.ensures (to_z-of_z c.ranges.def) in
+    let f : FitsSigned w32 s.value = search rules in
+    elim c.if-is_listed.branch [
+      | then-is_listed w ↦
+          let l : listed s ≡ true = sym c.is_listed.ensures ∙ w.if-is_listed.true in
+          rw (w.track-is, to_z-of_z f) (timing-left a c.args.def s s.value e (rw l))
+      | else-is_listed w ↦
+          let l : listed s ≡ false = sym c.is_listed.ensures ∙ w.if-is_listed.false in
+          rw (w.track-is, to_z-of_z f) (timing-left a c.args.def s a.timing e (rw l))
+    ]

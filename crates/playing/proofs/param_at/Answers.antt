@@ -1,24 +1,35 @@
--- `param_at` chooses by the tests.
-use borrow.Author.Tests.{eq-eqb, ne_eqb}
+-- `param_at` chooses by the number.
+use Rattle.std.proofs.Common.{rules, ◌≡◌, arith}
+use borrow.Author.Tests.{ne_eqb}
 use Rattle.playing.specs.Which.{param_of}
 use Rattle.playing.proofs.param_at.Goals as goal
 
-pub returns-then-which-eq-V : goal.returns-then-which-eq-V
+pub returns-in-0 : goal.returns-in-0
 unfolding param_of
-returns-then-which-eq-V c = rw (eq-eqb _ _ c.if-which-eq-V.true)
+returns-in-0 c =
+    let e : c.args.which ≡ 0 = search rules in
+    rw e
 
-pub returns-then-which-eq-Q : goal.returns-then-which-eq-Q
+pub returns-in-1 : goal.returns-in-1
 unfolding param_of
-returns-then-which-eq-Q c = rw (ne_eqb _ _ c.if-which-eq-V.false, eq-eqb _ _ c.if-which-eq-Q.true)
+returns-in-1 c =
+    let e : c.args.which ≡ 1 = search rules in
+    rw e
 
-pub returns-then-which-eq-T : goal.returns-then-which-eq-T
+pub returns-in-2 : goal.returns-in-2
 unfolding param_of
-returns-then-which-eq-T c = rw (ne_eqb _ _ c.if-which-eq-V.false, ne_eqb _ _ c.if-which-eq-Q.false, eq-eqb _ _ c.if-which-eq-T.true)
+returns-in-2 c =
+    let e : c.args.which ≡ 2 = search rules in
+    rw e
 
-pub returns-then-which-eq-O : goal.returns-then-which-eq-O
+pub returns-in-3 : goal.returns-in-3
 unfolding param_of
-returns-then-which-eq-O c = rw (ne_eqb _ _ c.if-which-eq-V.false, ne_eqb _ _ c.if-which-eq-Q.false, ne_eqb _ _ c.if-which-eq-T.false, eq-eqb _ _ c.if-which-eq-O.true)
+returns-in-3 c =
+    let e : c.args.which ≡ 3 = search rules in
+    rw e
 
-pub returns : goal.returns
+pub returns-in_default : goal.returns-in_default
 unfolding param_of
-returns c = rw (ne_eqb _ _ c.if-which-eq-V.false, ne_eqb _ _ c.if-which-eq-Q.false, ne_eqb _ _ c.if-which-eq-T.false, ne_eqb _ _ c.if-which-eq-O.false)
+returns-in_default c =
+    let n = c.args.which in
+    rw (ne_eqb n 0 (λ e. omega arith), ne_eqb n 1 (λ e. omega arith), ne_eqb n 2 (λ e. omega arith), ne_eqb n 3 (λ e. omega arith))

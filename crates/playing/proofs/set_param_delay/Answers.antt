@@ -7,4 +7,4 @@ use Rattle.playing.proofs.set_param_delay.Goals as goal
 
 pub returns : goal.returns
 returns c =
-    c.param_set.ensures ∙ ap (on_param c.args.which c.args.track) (c.set_delay-after.ensures ∙ ap₂ set_delay c.param_at-param.ensures (to_z-of_z c.ranges.delay))
+    c.param_set.ensures ∙ ap (on_param c.args.which c.args.track) (c.set_delay.ensures ∙ ap₂ set_delay c.param_at.ensures (to_z-of_z c.ranges.delay))

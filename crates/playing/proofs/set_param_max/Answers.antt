@@ -7,4 +7,4 @@ use Rattle.playing.proofs.set_param_max.Goals as goal
 
 pub returns : goal.returns
 returns c =
-    c.param_set.ensures ∙ ap (on_param c.args.which c.args.track) (c.set_max-after.ensures ∙ ap₂ set_max c.param_at-param.ensures (to_z-of_z c.ranges.max))
+    c.param_set.ensures ∙ ap (on_param c.args.which c.args.track) (c.set_max.ensures ∙ ap₂ set_max c.param_at.ensures (to_z-of_z c.ranges.max))

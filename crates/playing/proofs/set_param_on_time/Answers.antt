@@ -13,4 +13,4 @@ use Rattle.playing.proofs.set_param_on_time.Goals as goal
 pub returns : goal.returns
 returns c =
     let f : SFits w64 c.args.track.timepos = search rules in
-    c.param_set.ensures ∙ ap (on_param c.args.which c.args.track) (c.set_on_time-after.ensures ∙ ap₂ (λ (x : NoteParam) (t : ℤ). set_on_time x t c.args.values.now) c.param_at-param.ensures (to_z-of_z f))
+    c.param_set.ensures ∙ ap (on_param c.args.which c.args.track) (c.set_on_time.ensures ∙ ap₂ (λ (x : NoteParam) (t : ℤ). set_on_time x t c.args.values.now) c.param_at.ensures (to_z-of_z f))

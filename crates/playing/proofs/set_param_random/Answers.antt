@@ -7,4 +7,4 @@ use Rattle.playing.proofs.set_param_random.Goals as goal
 
 pub returns : goal.returns
 returns c =
-    c.param_set.ensures ∙ ap (on_param c.args.which c.args.track) (c.set_random-after.ensures ∙ ap₂ set_random c.param_at-param.ensures (to_z-of_z c.ranges.random))
+    c.param_set.ensures ∙ ap (on_param c.args.which c.args.track) (c.set_random.ensures ∙ ap₂ set_random c.param_at.ensures (to_z-of_z c.ranges.random))

@@ -8,4 +8,4 @@ use Rattle.playing.proofs.set_param_range.Goals as goal
 
 pub returns : goal.returns
 returns c =
-    c.param_set.ensures ∙ ap (on_param c.args.which c.args.track) (c.set_range-after.ensures ∙ ap₃ set_range c.param_at-param.ensures (to_z-of_z c.ranges.low) (to_z-of_z c.ranges.high))
+    c.param_set.ensures ∙ ap (on_param c.args.which c.args.track) (c.set_range.ensures ∙ ap₃ set_range c.param_at.ensures (to_z-of_z c.ranges.low) (to_z-of_z c.ranges.high))

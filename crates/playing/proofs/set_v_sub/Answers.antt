@@ -7,4 +7,4 @@ use Rattle.playing.proofs.set_v_sub.Goals as goal
 
 pub returns : goal.returns
 returns c =
-    c.layers_set.ensures ∙ ap (on_layers c.args.track) (c.set_v_sub-after.ensures ∙ ap (set_v_sub c.args.track.layers c.args.index) (to_z-of_z c.ranges.velocity))
+    c.layers_set.ensures ∙ ap (on_layers c.args.track) (c.set_v_sub.ensures ∙ ap (set_v_sub c.args.track.layers c.args.index) (to_z-of_z c.ranges.velocity))

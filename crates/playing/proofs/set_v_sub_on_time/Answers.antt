@@ -13,4 +13,4 @@ pub returns : goal.returns
 returns c =
     let f : SFits w64 c.args.track.timepos = search rules in
     let g : SFits w32 c.args.track.v.delay = search rules in
-    c.layers_set.ensures ∙ ap (on_layers c.args.track) (c.set_v_sub_on_time-after.ensures ∙ ap₂ (λ (t d : ℤ). set_v_sub_on_time c.args.track.layers c.args.index t d c.args.values.now) (to_z-of_z f) (to_z-of_z g))
+    c.layers_set.ensures ∙ ap (on_layers c.args.track) (c.set_v_sub_on_time.ensures ∙ ap₂ (λ (t d : ℤ). set_v_sub_on_time c.args.track.layers c.args.index t d c.args.values.now) (to_z-of_z f) (to_z-of_z g))

@@ -7,4 +7,4 @@ use Rattle.playing.proofs.set_v_sub_random.Goals as goal
 
 pub returns : goal.returns
 returns c =
-    c.layers_set.ensures ∙ ap (on_layers c.args.track) (c.set_v_sub_random-after.ensures ∙ ap (set_v_sub_random c.args.track.layers c.args.index) (to_z-of_z c.ranges.random))
+    c.layers_set.ensures ∙ ap (on_layers c.args.track) (c.set_v_sub_random.ensures ∙ ap (set_v_sub_random c.args.track.layers c.args.index) (to_z-of_z c.ranges.random))

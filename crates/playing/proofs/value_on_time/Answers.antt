@@ -12,4 +12,4 @@ use Rattle.playing.proofs.value_on_time.Goals as goal
 pub returns : goal.returns
 returns c =
     let f : SFits w64 c.args.track.timepos = search rules in
-    c.time_taken.ensures ∙ ap (time_taken c.args.which c.args.track) (c.calc_on_time-taken.ensures ∙ ap₃ calc_on_time c.param_at-param.ensures (to_z-of_z f) (to_z-of_z c.ranges.def))
+    c.time_taken.ensures ∙ ap (time_taken c.args.which c.args.track) (c.calc_on_time.ensures ∙ ap₃ calc_on_time c.param_at.ensures (to_z-of_z f) (to_z-of_z c.ranges.def))

@@ -6,7 +6,7 @@ use Rattle.numbers.specs.Ranges.{is_target}
 use Rattle.numbers.specs.Refusals.{told}
 use Rattle.tables.specs.declared.CycleTable.{CycleTable}
 use Rattle.tables.specs.Tables.{ok_cycles, lone}
-use Rattle.state.proofs.Told.{told-asked, ask-ok, ask-err}
+use Rattle.numbers.proofs.Asking.{told-asked, ask-ok, ask-err}
 use Rattle.state.proofs.Lent.{untracked, tracked, behind}
 use Rattle.state.proofs.Stored.{notes-few, waves-few, sines-few}
 use Rattle.reserving.specs.Clearing.{refusal}

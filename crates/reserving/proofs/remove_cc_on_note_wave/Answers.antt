@@ -12,7 +12,7 @@ use Rattle.state.proofs.Stored.{waves-few, sines-few}
 use Rattle.state.proofs.Answers.{refused-by, done-by}
 use Rattle.drawing.specs.Calls.{cc_target}
 use Rattle.numbers.specs.Refusals.{told}
-use Rattle.state.proofs.Told.{some-number}
+use Rattle.numbers.proofs.Asking.{some-number}
 use Rattle.drawing.specs.Options.{for_target}
 use Rattle.reserving.specs.Old.{alone_refusal, remove_cc_on_note_wave}
 use Rattle.reserving.proofs.Alone.{usable}

@@ -1,6 +1,6 @@
--- `set_on_cycle`: both ends, with a cycle or none (Settling).
+-- `set_on_cycle`: what is set, with a cycle, or what is freed (Settling).
 use mathlib.Core.Path.{◌≡◌, sym, ap, ◌∙◌}
-use mathlib.Core.Bool.{Bool, true, cond, ◌&&◌, ◌||◌}
+use mathlib.Core.Bool.{Bool, cond, ◌&&◌, ◌||◌}
 use borrow.Author.Rules.{rules}
 use mir.Syntax.{w32, w64}
 use mir.Val.{SFits}
@@ -13,18 +13,14 @@ use Rattle.std.specs.Result.{is_ok, result_unwrap_or}
 use Rattle.numbers.specs.declared.refusals.Refusal.{Refusal}
 use Rattle.counted.specs.Numbers.{none, ok_numbers}
 use Rattle.cycles.specs.declared.Cycle.{Cycle}
-use Rattle.cycles.specs.Due.{key}
 use Rattle.reserving.specs.declared.Kept.{Kept}
 use Rattle.reserving.specs.Setting.{cycle_of, cycle_room, with_cycle, only_removes, set_on_cycle}
-use Rattle.reserving.specs.Clearing.{refusal, reserving}
-use Rattle.numbers.specs.Refusals.{told}
-use Rattle.state.proofs.Told.{some-number}
-use Rattle.reserving.proofs.Refusing.{usable}
-use Rattle.reserving.proofs.Settling.{relisted, turned-away, settled}
-use Rattle.reserving.proofs.set_on_cycle.Goals.{After-asked}
+use Rattle.reserving.specs.Clearing.{reserving}
+use Rattle.reserving.proofs.Settling.{relisted}
+use Rattle.reserving.proofs.set_on_cycle.Goals.{After-numbers_ok}
 use Rattle.reserving.proofs.set_on_cycle.Goals as goal
 
-module _ (c : After-asked) where
+module _ (c : After-numbers_ok) where
   abbrev v : Result Numbers Refusal
   v = c.numbers_of-listed.result
 
@@ -43,38 +39,37 @@ module _ (c : After-asked) where
   abbrev made : Numbers → Cycle
   made x = cycle_of c.args.target c.args.length c.args.track.timepos x
 
-  abbrev room : Numbers → Kept → Bool
-  room x f = gone x || cycle_room f
+  abbrev room : Bool → Kept → Bool
+  room b f = b || cycle_room f
 
-  abbrev put : Numbers → Kept → Kept
-  put x f = cond (gone x) f (with_cycle (made x) f)
+  abbrev put : Numbers → Bool → Kept → Kept
+  put x b f = cond b f (with_cycle (made x) f)
 
-  code_is : told c.asked.result ≡ refusal c.args.track c.args.size c.args.cycles c.args.target (is_ok v) (ok list) true
-  code_is =
-      let tested : (c.is_length.result && c.numbers_ok.result) ≡ ok list =
-      both (is_at w32 is_length c.ranges.length.sfits c.is_length.ensures) (c.numbers_ok.ensures ∙ ap ok_numbers list_is) in
-      rw (to_z-of_z c.ranges.target, c.is_ok.ensures.value, tested) at c.asked.ensures
+  tested : (c.is_length.result && c.numbers_ok.result) ≡ ok list
+  tested = both (is_at w32 is_length c.ranges.length.sfits c.is_length.ensures) (c.numbers_ok.ensures ∙ ap ok_numbers list_is)
 
-  whole : reserving c.args.track c.args.size c.args.cycles c.args.target (is_ok v) (ok list) (room list) (put list)
-      ≡ set_on_cycle c.args.track c.args.size c.args.cycles c.args.target c.args.length c.args.list.now
+  abbrev by : Bool → Kept
+  by b = reserving c.args.track c.args.size c.args.cycles c.args.target (is_ok v) (ok list) (room b) (put list b)
+
+  whole : by (gone list) ≡ set_on_cycle c.args.track c.args.size c.args.cycles c.args.target c.args.length c.args.list.now
   unfolding set_on_cycle
-  whole = relisted c.args.track c.args.size c.args.cycles c.args.target c.args.list.now ok room put c.numbers_of-listed.ensures
+  whole =
+      relisted c.args.track c.args.size c.args.cycles c.args.target c.args.list.now ok (λ (x : Numbers). room (gone x))
+      (λ (x : Numbers). put x (gone x)) c.numbers_of-listed.ensures
 
-pub returns-in-Err : goal.returns-in-Err
-returns-in-Err c =
-    let a = c.args in
-    let d = (goal.at.returns-in-Err c).After-asked in
-    rw c.number.ensures (turned-away a.track a.size a.cycles a.target _ _ (room d (list d)) (put d (list d)) (sym (ap told c.in-Err.is) ∙ code_is d) (some-number c.in-Err.refusal) ∙ whole d)
+  -- by whether the call only removes
+  chosen : {b : Bool} → gone list ≡ b → by b ≡ set_on_cycle c.args.track c.args.size c.args.cycles c.args.target c.args.length c.args.list.now
+  chosen e = ap by (sym e) ∙ whole
 
-pub put_in_cycles-requires : goal.put_in_cycles-requires
-put_in_cycles-requires c = usable _ _ _ _ _ _ _ (sym (code_is (goal.at.put_in_cycles-requires c).After-asked) ∙ (ap told c.in_default.is))
+pub returns-then-length-values : goal.returns-then-length-values
+returns-then-length-values c =
+    let d = (goal.at.returns-then-length-values c).After-numbers_ok in
+    rw (to_z-of_z c.ranges.target, c.is_ok-short.ensures.value, tested d) at c.freed.ensures
+    ∙ chosen d (rw (to_z-of_z c.ranges.length, list_is d) at c.if-length-values.true)
 
 pub returns : goal.returns
 returns c =
-    let a = c.args in
-    let d = (goal.at.returns c).After-asked in
-    let f : SFits w64 a.track.timepos = search rules in
-    let z = to_z-of_z c.ranges.target in
-    settled a.track a.size a.cycles a.target _ _ (room d (list d)) (put d (list d)) (code_is d) (ap told c.in_default.is)
-    (rw (z, to_z-of_z c.ranges.length, to_z-of_z f, list_is d, c.key_of-k.ensures ∙ ap key z) at c.put_in_cycles.ensures)
-    ∙ whole d
+    let d = (goal.at.returns c).After-numbers_ok in
+    let f : SFits w64 c.args.track.timepos = search rules in
+    rw (to_z-of_z c.ranges.target, to_z-of_z c.ranges.length, to_z-of_z f, c.is_ok-short.ensures.value, tested d, list_is d) at c.set.ensures
+    ∙ chosen d (rw (to_z-of_z c.ranges.length, list_is d) at c.if-length-values.false)

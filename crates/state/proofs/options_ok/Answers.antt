@@ -3,7 +3,7 @@ use Rattle.std.proofs.Common.{rules, ◌≡◌, ℕ, ◌<◌, length, true, get_
 use Rattle.std.specs.Prelude.{◌↔◌}
 use Rattle.values.specs.Options.{ok_option, new_option}
 use Rattle.state.specs.Tests.{ok_options}
-use Rattle.state.proofs.Chains.{all-told}
+use Rattle.counted.proofs.Chains.{all-told}
 use Rattle.state.proofs.options_ok.Goals as goal
 
 pub returns : goal.returns

@@ -4,7 +4,7 @@ use Rattle.laws.proofs.Tests.{both}
 use Rattle.numbers.specs.Refusals.{told}
 use Rattle.numbers.specs.Ranges.{is_length}
 use Rattle.reserved.specs.Setting.{demand}
-use Rattle.state.proofs.Told.{told-asked}
+use Rattle.numbers.proofs.Asking.{told-asked}
 use Rattle.state.proofs.Answers.{asked-well, asked-ill}
 use Rattle.state.proofs.set_pb_on_time_freq.Goals.{then-is_ok, else-is_ok}
 use Rattle.state.proofs.set_pb_on_time_freq.Goals as goal

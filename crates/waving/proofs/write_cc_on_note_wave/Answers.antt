@@ -3,7 +3,7 @@
 use Rattle.std.specs.Prelude.{Ok}
 use borrow.Author.Tests.{ne_eqb}
 use Rattle.numbers.specs.Refusals.{number_of, told}
-use Rattle.state.proofs.Told.{some-number}
+use Rattle.numbers.proofs.Asking.{some-number}
 use Rattle.drawing.specs.Calls.{in_order}
 use Rattle.drawing.proofs.Drawn.{Passed, passed as passed_all}
 use mathlib.Core.Path.{◌≡◌, sym, ap, subst, ◌∙◌}

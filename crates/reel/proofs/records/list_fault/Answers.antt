@@ -5,7 +5,7 @@ use Rattle.laws.specs.Integers.{cut}
 use Rattle.laws.proofs.Tests.{is_at}
 use Rattle.numbers.specs.Ranges.{is_target}
 use Rattle.reel.specs.Records.{is_count}
-use Rattle.reel.proofs.Asking.{asked-no, asked-yes, told-within}
+use Rattle.reel.proofs.Asking.{asked-no, asked-yes, asked-within}
 use Rattle.reel.proofs.Reading.{no_target, no-count, short-list, whole-list}
 use Rattle.reel.proofs.records.list_fault.Goals as goal
 
@@ -29,6 +29,6 @@ returns c =
     let k = sym (is_at w32 is_count c.ranges.n.sfits c.is_count.ensures) ∙ asked-yes c.is_count.result _ c.in_ok-ask-2.ensures in
     let counted = c.count_of.ensures ∙ ap cut (to_z-of_z c.ranges.n) in
     let r = c.requires in
-    rw c.ask-3.ensures (told-within (4 * c.count_of.result) (length a.tape.now - a.at) _
+    rw c.ask-3.ensures (asked-within (4 * c.count_of.result) (length a.tape.now - a.at) _
     (λ h. whole-list _ _ _ _ _ t k (omega arith))
     (λ h. short-list _ _ _ _ _ t k (omega arith)))

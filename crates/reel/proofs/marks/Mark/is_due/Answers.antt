@@ -3,4 +3,4 @@ use Rattle.reel.proofs.marks.Mark.is_due.Goals as goal
 
 pub returns : goal.returns
 unfolding is_due
-returns c = rw (c.width.ensures.value, c.order.ensures)
+returns c = rw c.order.ensures

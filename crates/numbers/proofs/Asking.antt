@@ -1,6 +1,7 @@
--- What a call's number says of what was asked.
+-- What a call's number, and what became of a test, say of what was asked.
 --     told-asked           of one test: its refusal's number, or 0
---     ask-ok, ask-err      what came of one test says whether it holds
+--     asked-yes, asked-no  where the call goes on the test held, and where it refuses it did not
+--     ask-ok, ask-err      the same by the answer's name
 --     some-number          no refusal has the number 0
 --     told-well, told-ill  so 0 says that all was well
 use Rattle.std.proofs.Common.{◌≡◌, Bool, true, false, cond, refl, sym, ap, ◌∙◌, arith, Result, Ok, Err}
@@ -46,3 +47,11 @@ told-well (Err r) e = absurd (cc)
 pub told-ill : (q : Result Unit Refusal) → is_ok q ≡ false → told q ≡ 0 → ⊥
 told-ill (Ok x) e = absurd (cc)
 told-ill (Err r) e = some-number r
+
+pub asked-no : (holds : Bool) {r e : Refusal} → Err e ≡ asked holds r → (holds ≡ false) × (e ≡ r)
+asked-no true h = absurd (cc)
+asked-no false h = (refl, cc)
+
+pub asked-yes : (holds : Bool) (r : Refusal) {u : Unit {0}} → Ok u ≡ asked holds r → holds ≡ true
+asked-yes true r h = refl
+asked-yes false r h = absurd (cc)

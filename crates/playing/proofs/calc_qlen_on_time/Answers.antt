@@ -1,9 +1,0 @@
--- `calc_qlen_on_time` names the parameter.
-use mathlib.Core.Path.{ap, ◌∙◌}
-use mir.Facts.{to_z-of_z}
-use Rattle.playing.specs.Which.{gate}
-use Rattle.playing.specs.Calls.{value_on_time}
-use Rattle.playing.proofs.calc_qlen_on_time.Goals as goal
-
-pub returns : goal.returns
-returns c = c.value_on_time.ensures ∙ ap (value_on_time gate c.args.track) (to_z-of_z c.ranges.def)

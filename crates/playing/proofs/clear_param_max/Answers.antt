@@ -1,9 +1,0 @@
--- `clear_param_max`: the parameter's own call, and the track.
-use mathlib.Core.Path.{ap, ◌∙◌}
-use Rattle.params.specs.Calls.{clear_max}
-use Rattle.playing.specs.Calls.{on_param}
-use Rattle.playing.proofs.clear_param_max.Goals as goal
-
-pub returns : goal.returns
-returns c =
-    c.param_set.ensures ∙ ap (on_param c.args.which c.args.track) (c.clear_max-after.ensures ∙ ap clear_max c.param_at-param.ensures)
