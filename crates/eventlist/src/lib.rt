@@ -42,7 +42,14 @@ fn encode(s: &mut [i64], e: Event)
     requires { length s.old ≡ record_width }
     ensures { s.new ≡ numbers_of e }
 {
-    s.copy_from_slice(&[e.kind, e.time, e.channel, e.v1, e.v2, e.v3, e.offset, e.len]);
+    s[0] = e.kind;
+    s[1] = e.time;
+    s[2] = e.channel;
+    s[3] = e.v1;
+    s[4] = e.v2;
+    s[5] = e.v3;
+    s[6] = e.offset;
+    s[7] = e.len;
 }
 
 // Record `i`, which is there.
