@@ -76,14 +76,25 @@ pub fn layer_ok(layer: Layer) -> bool
     is_number(layer.value) & is_random(layer.random) & reserve_ok(layer.reserve)
 }
 
-// Whether there are 1 to 16 layers, every number of which is in its range.
+// Whether there are 1 to 16 layers, every number of which is in its range. Each is read by value: an iterator over them would have
+// the compiled code copy all sixteen first.
+#[tactic(auto, unfolding(crate::specs::Layers::ok_layers))]
 pub fn layers_ok(layers: Layers) -> bool
     ensures { result ≡ ok_layers layers }
 {
-    (1..=LAYER_LIMIT).contains(&layers.count)
-        && layers.items[..layers.count]
-            .iter()
-            .all(|layer| layer_ok(*layer))
+    let n = layers.count;
+    if n == 0 {
+        return false;
+    }
+    if LAYER_LIMIT < n {
+        return false;
+    }
+    for i in 0..n {
+        if !layer_ok(layers.items[i]) {
+            return false;
+        }
+    }
+    true
 }
 
 // The layers with empty ones up to `index`.

@@ -159,7 +159,13 @@ fn own_layers_ok(track: Track) -> bool
 fn options_ok(options: [WriteOption; OPTIONS]) -> bool
     ensures { result ≡ ok_options options }
 {
-    options.iter().all(|option| option_ok(*option))
+    // Each by value: an iterator over them would have the compiled code copy them all first.
+    for i in 0..OPTIONS {
+        if !option_ok(options[i]) {
+            return false;
+        }
+    }
+    true
 }
 
 // Whether the tables may be stored, and no target has two reservations in them; cycles are not asked here.

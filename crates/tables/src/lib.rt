@@ -115,7 +115,8 @@ pub fn sine_ok(e: OnNoteSine) -> bool
         & numbers::is_length(e.times)
 }
 
-// What may stand in a table: it says what an unused place holds, what tells a record apart, and whether one may be stored.
+// What may stand in a table: it says what an unused place holds, what tells a record apart, and whether one may be stored. Records and
+// tables go by value to what tests them: of a reference the compiled code copies the whole table, and of a track all its tables.
 pub trait Reservation: Copy {
     ghost blank: { Self };
 
@@ -126,11 +127,11 @@ pub trait Reservation: Copy {
     fn blank() -> Self
         ensures { result ≡ blank };
 
-    fn key(&self) -> usize
-        ensures { result ≡ key self.now };
+    fn key(self) -> usize
+        ensures { result ≡ key self };
 
-    fn is_ok(&self) -> bool
-        ensures { result ≡ ok self.now };
+    fn is_ok(self) -> bool
+        ensures { result ≡ ok self };
 }
 
 impl Reservation for OnNoteValues {
@@ -149,12 +150,12 @@ impl Reservation for OnNoteValues {
         }
     }
 
-    fn key(&self) -> usize {
+    fn key(self) -> usize {
         key_of(self.target)
     }
 
-    fn is_ok(&self) -> bool {
-        note_ok(*self)
+    fn is_ok(self) -> bool {
+        note_ok(self)
     }
 }
 
@@ -173,12 +174,12 @@ impl Reservation for OnNoteWave {
         }
     }
 
-    fn key(&self) -> usize {
+    fn key(self) -> usize {
         key_of(self.target)
     }
 
-    fn is_ok(&self) -> bool {
-        wave_ok(*self)
+    fn is_ok(self) -> bool {
+        wave_ok(self)
     }
 }
 
@@ -200,12 +201,12 @@ impl Reservation for OnNoteSine {
         }
     }
 
-    fn key(&self) -> usize {
+    fn key(self) -> usize {
         key_of(self.target)
     }
 
-    fn is_ok(&self) -> bool {
-        sine_ok(*self)
+    fn is_ok(self) -> bool {
+        sine_ok(self)
     }
 }
 
@@ -220,12 +221,12 @@ impl Reservation for Cycle {
         Cycle::none()
     }
 
-    fn key(&self) -> usize {
+    fn key(self) -> usize {
         key_of(self.target)
     }
 
-    fn is_ok(&self) -> bool {
-        cycles::cycle_ok(*self)
+    fn is_ok(self) -> bool {
+        cycles::cycle_ok(self)
     }
 }
 
@@ -295,15 +296,15 @@ pub struct CycleTable {
 }
 
 // Whether at most sixteen count, each of which may be stored.
-fn are_ok<T: Reservation>(count: usize, items: &[T; PLACES]) -> bool
-    ensures value { result ≡ ok_sixteen T.ok count items.now }
+fn are_ok<T: Reservation>(count: usize, items: [T; PLACES]) -> bool
+    ensures value { result ≡ ok_sixteen T.ok count items }
     ensures few { result ≡ true → count ≤ places }
 {
     if PLACES < count {
         return false;
     }
-    for e in &items[..count] {
-        if !e.is_ok() {
+    for i in 0..count {
+        if !items[i].is_ok() {
             return false;
         }
     }
@@ -343,11 +344,11 @@ fn put_in<T: Reservation>(count: usize, items: &mut [T; PLACES], e: T) -> usize
 
 impl NoteTable {
     // Whether at most sixteen count, each of which may be stored.
-    pub fn is_ok(&self) -> bool
-        ensures value { result ≡ ok_notes self.now }
-        ensures few { result ≡ true → self.now.count ≤ places }
+    pub fn is_ok(self) -> bool
+        ensures value { result ≡ ok_notes self }
+        ensures few { result ≡ true → self.count ≤ places }
     {
-        are_ok(self.count, &self.items)
+        are_ok(self.count, self.items)
     }
 
     // The table without the target of key `k`.
@@ -371,11 +372,11 @@ impl NoteTable {
 
 impl WaveTable {
     // Whether at most sixteen count, each of which may be stored.
-    pub fn is_ok(&self) -> bool
-        ensures value { result ≡ ok_waves self.now }
-        ensures few { result ≡ true → self.now.count ≤ places }
+    pub fn is_ok(self) -> bool
+        ensures value { result ≡ ok_waves self }
+        ensures few { result ≡ true → self.count ≤ places }
     {
-        are_ok(self.count, &self.items)
+        are_ok(self.count, self.items)
     }
 
     // The table without the target of key `k`.
@@ -399,11 +400,11 @@ impl WaveTable {
 
 impl SineTable {
     // Whether at most sixteen count, each of which may be stored.
-    pub fn is_ok(&self) -> bool
-        ensures value { result ≡ ok_sines self.now }
-        ensures few { result ≡ true → self.now.count ≤ places }
+    pub fn is_ok(self) -> bool
+        ensures value { result ≡ ok_sines self }
+        ensures few { result ≡ true → self.count ≤ places }
     {
-        are_ok(self.count, &self.items)
+        are_ok(self.count, self.items)
     }
 
     // The table without the target of key `k`.
@@ -427,11 +428,11 @@ impl SineTable {
 
 impl CycleTable {
     // Whether at most sixteen count, each of which may be stored.
-    pub fn is_ok(&self) -> bool
-        ensures value { result ≡ ok_cycles self.now }
-        ensures few { result ≡ true → self.now.count ≤ places }
+    pub fn is_ok(self) -> bool
+        ensures value { result ≡ ok_cycles self }
+        ensures few { result ≡ true → self.count ≤ places }
     {
-        are_ok(self.count, &self.items)
+        are_ok(self.count, self.items)
     }
 
     // The table without the target of key `k`.
@@ -473,11 +474,11 @@ impl Keys {
     }
 
     // Those of a table behind what is gathered.
-    fn gather<T: Reservation>(&mut self, count: usize, items: &[T; PLACES])
+    fn gather<T: Reservation>(&mut self, count: usize, items: [T; PLACES])
         requires few { count ≤ places }
         requires room { self.old.count + count ≤ key_limit }
         ensures count { self.new.count ≡ self.old.count + count }
-        ensures shown { keys_shown self.new ≡ keys_shown self.old ++ keys_of T.key count items.now }
+        ensures shown { keys_shown self.new ≡ keys_shown self.old ++ keys_of T.key count items }
     {
         let first = self.count;
         for i in 0..count {
@@ -508,10 +509,10 @@ pub fn lone_ok(notes: NoteTable, waves: WaveTable, sines: SineTable, cycles: Cyc
     ensures { result ≡ lone notes waves sines cycles }
 {
     let mut keys = Keys::none();
-    keys.gather(notes.count, &notes.items);
-    keys.gather(waves.count, &waves.items);
-    keys.gather(sines.count, &sines.items);
-    keys.gather(cycles.count, &cycles.items);
+    keys.gather(notes.count, notes.items);
+    keys.gather(waves.count, waves.items);
+    keys.gather(sines.count, sines.items);
+    keys.gather(cycles.count, cycles.items);
     keys.alone()
 }
 
@@ -520,12 +521,12 @@ pub fn lone_ok(notes: NoteTable, waves: WaveTable, sines: SineTable, cycles: Cyc
 pub fn stored_ok(notes: NoteTable, waves: WaveTable, sines: SineTable) -> bool
     ensures { result ≡ ok_stored notes waves sines }
 {
-    if !(notes.is_ok() & waves.is_ok() & sines.is_ok()) {
+    if !(notes.is_ok() && waves.is_ok() && sines.is_ok()) {
         return false;
     }
     let mut keys = Keys::none();
-    keys.gather(notes.count, &notes.items);
-    keys.gather(waves.count, &waves.items);
-    keys.gather(sines.count, &sines.items);
+    keys.gather(notes.count, notes.items); // the lists' keys first
+    keys.gather(waves.count, waves.items);
+    keys.gather(sines.count, sines.items);
     keys.alone()
 }

@@ -4,32 +4,33 @@ use Rattle.laws.proofs.Tests.{counted-over, passed, failed, ended}
 use Rattle.numbers.specs.Limits.{places}
 use Rattle.tables.specs.Sixteen.{ok_sixteen}
 use Rattle.tables.proofs.Testing.{well-is}
+use lib.Seq.{get_or-take}
 use Rattle.tables.proofs.are_ok.Goals as goal
 
 pub returns-then-count-gt-PLACES-clause-value : goal.returns-then-count-gt-PLACES-clause-value
 unfolding ok_sixteen
 returns-then-count-gt-PLACES-clause-value g c =
-    counted-over g.T.Reservation.ok c.args.count places c.args.items.now c.if-count-gt-PLACES.true
+    counted-over g.T.Reservation.ok c.args.count places c.args.items c.if-count-gt-PLACES.true
 
 pub returns-then-not-is_ok-clause-value : goal.returns-then-not-is_ok-clause-value
 returns-then-not-is_ok-clause-value g c =
     let p = g.T.Reservation.ok in
     let n = c.args.count in
-    let l = c.args.items.now in
-    let e : p (get_or (take n l) c.loop-e.e-index c.e-item.result) ≡ false = ap p (sym c.e-item.is) ∙ sym c.is_ok.ensures ∙ c.if-not-is_ok.true in
-    failed p (take n l) c.loop-e.e-index c.e-item.result (search rules) e c.loop-e.invariant ∙ well-is p n l (search rules)
+    let l = c.args.items in
+    let e : p (get_or (take n l) c.loop-i.i c.index-items-i.result) ≡ false = ap p (get_or-take n l c.loop-i.i c.index-items-i.result (search rules)) ∙ sym c.is_ok.ensures ∙ c.if-not-is_ok.true in
+    failed p (take n l) c.loop-i.i c.index-items-i.result (search rules) e c.loop-i.invariant ∙ well-is p n l (search rules)
 
-pub loop-e-preserved : goal.loop-e-preserved
-loop-e-preserved g c =
+pub loop-i-preserved : goal.loop-i-preserved
+loop-i-preserved g c =
     let p = g.T.Reservation.ok in
     let n = c.args.count in
-    let l = c.args.items.now in
-    let e : p (get_or (take n l) c.loop-e.e-index c.e-item.result) ≡ true = ap p (sym c.e-item.is) ∙ sym c.is_ok.ensures ∙ c.if-not-is_ok.false in
-    passed p (take n l) c.loop-e.e-index c.e-item.result (search rules) e c.loop-e.invariant
+    let l = c.args.items in
+    let e : p (get_or (take n l) c.loop-i.i c.index-items-i.result) ≡ true = ap p (get_or-take n l c.loop-i.i c.index-items-i.result (search rules)) ∙ sym c.is_ok.ensures ∙ c.if-not-is_ok.false in
+    passed p (take n l) c.loop-i.i c.index-items-i.result (search rules) e c.loop-i.invariant
 
 pub returns-clause-value : goal.returns-clause-value
 returns-clause-value g c =
     let p = g.T.Reservation.ok in
     let n = c.args.count in
-    let l = c.args.items.now in
-    ended p (take n l) c.loop-e.e-index (search rules) c.loop-e.invariant ∙ well-is p n l (search rules)
+    let l = c.args.items in
+    ended p (take n l) c.loop-i.i (search rules) c.loop-i.invariant ∙ well-is p n l (search rules)

@@ -3,5 +3,5 @@ use Rattle.std.proofs.Common.{take}
 use Rattle.laws.proofs.Tests.{Left}
 use Rattle.tables.proofs.are_ok.Given as goal
 
-abbrev pub invariant-loop-e : goal.invariant-loop-e
-invariant-loop-e g l = Left g.T.Reservation.ok (take l.count l.items) l.e-index
+abbrev pub invariant-loop-i : goal.invariant-loop-i
+invariant-loop-i g l = Left g.T.Reservation.ok (take l.count l.items) l.i

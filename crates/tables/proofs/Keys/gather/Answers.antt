@@ -8,6 +8,6 @@ loop-i-preserved g c =
     let f = g.T.Reservation.key in
     let a = c.args.self.now in (
       c.loop-i.invariant.0,
-      one_further f c.args.items.now a.items a.count c.args.count (search rules) c.loop-i.self.items c.loop-i.i c.key.result c.index-items-i.result c.loop-i.invariant.1
+      one_further f c.args.items a.items a.count c.args.count (search rules) c.loop-i.self.items c.loop-i.i c.key.result c.index-items-i.result c.loop-i.invariant.1
           (search rules) (search rules) c.key.ensures,
     )
