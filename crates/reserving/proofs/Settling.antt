@@ -3,7 +3,7 @@
 --     passed_on, no_place, put_in   the second step
 --     setting         the old entries go, then a place is asked for: this is the one definition, whatever is put and wherever
 --     relisted        a list that was laid is the lent one, unless it is too long, and then nothing else counts
---     in-two          what the code leaves in these two steps
+--     turned-away, settled   the two ends of a setter's code
 use mathlib.Core.Path.{◌≡◌, refl, sym, ap, ◌∙◌}
 use mathlib.Core.Bool.{Bool, true, false, cond, ◌&&◌}
 use mathlib.Core.List.{List}
@@ -104,6 +104,15 @@ module _ (a : Track) (size : ℕ) (cs : List Cycle) (target : ℤ) where
     pub relisted : {l : Result Numbers Refusal} → l ≡ numbers_of v → with (is_ok l) (result_unwrap_or l none) ≡ with (is_short v) (numbers v)
     relisted e = ap (λ (x : Result Numbers Refusal). with (is_ok x) (result_unwrap_or x none)) e ∙ listed
 
-  module _ (short ok : Bool) (room : Kept → Bool) (put : Kept → Kept) {f r : Kept} where
-    pub in-two : f ≡ freed a size cs target short ok → r ≡ placed a cs room put f → r ≡ reserving a size cs target short ok room put
-    in-two e p = p ∙ ap (placed a cs room put) e ∙ setting room put short ok
+  -- the two ends of a setter's code, by the number that was asked
+  module _ {m : ℕ} (short ok : Bool) (room : Kept → Bool) (put : Kept → Kept) (e : m ≡ refusal a size cs target short ok true) where
+    pub turned-away : (m ≡ 0 → ⊥) → answer m a cs ≡ reserving a size cs target short ok room put
+    unfolding reserving
+    turned-away h =
+        passed_on a cs room put (answer m a cs) h
+        ∙ ap (placed a cs room put) (refused e a cs (cleared a cs (key target)) h)
+        ∙ setting room put short ok
+
+    pub settled : {r : Kept} → m ≡ 0 → r ≡ placed a cs room put (cleared a cs (key target)) → r ≡ reserving a size cs target short ok room put
+    unfolding reserving
+    settled z p = p ∙ ap (placed a cs room put) (done e a cs (cleared a cs (key target)) z) ∙ setting room put short ok

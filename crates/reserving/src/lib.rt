@@ -6,18 +6,22 @@
 ghost use Rattle.std.specs.Prelude.{◌≡◌, Bool, true};
 ghost use Rattle.numbers.specs.Refusals.{told};
 ghost use Rattle.cycles.specs.Turns.{option_of};
+ghost use Rattle.state.specs.Track.{with_tables};
 ghost use Rattle.state.specs.Tests.{ok_lent};
 ghost use Rattle.reserving.specs.declared.Kept.{Kept};
-ghost use Rattle.reserving.specs.Clearing.{refusal, cleared, reserving, freed};
+ghost use Rattle.reserving.specs.Clearing.{answer, refusal, cleared, reserving, freed, placed};
 ghost use Rattle.reserving.specs.Setting.{note_room, wave_room, sine_room, cycle_room, with_note, with_wave, with_sine, with_cycle, remove_reserve, set_on_note, set_on_note_wave, set_on_note_sine, set_on_cycle};
 ghost use Rattle.reserving.specs.Old.{remove_cc_on, set_cc_on_note, set_cc_on_note_wave, set_pb_on_note_wave, remove_pb_on_note_wave, remove_cc_on_note, remove_cc_on_note_wave};
 
 use counted::{empty, numbers_of, numbers_ok};
 use cycles::{Cycle, PLACES, key_of};
-use drawing::{ask_target, cc_target, pb_target};
+use drawing::{ask_track, cc_target, pb_target};
 use numbers::{Refusal, ask, is_length, is_target};
 use state::{OPTIONS, Track, TrackAnswer, cycles_of, lent_alone, track_ok};
-use tables::{CycleTable, NORMAL, OnNoteSine, OnNoteValues, OnNoteWave, note_ok, sine_ok, wave_ok};
+use tables::{
+    CycleTable, NORMAL, NoteTable, OnNoteSine, OnNoteValues, OnNoteWave, SineTable, WaveTable,
+    note_ok, sine_ok, wave_ok,
+};
 use values::WriteOption;
 
 // The track and the cycle table as a call leaves them.
@@ -29,66 +33,76 @@ pub struct Kept {
     pub cycles: [Cycle; PLACES],
 }
 
+// The functions behind the setters change one answer in place: each that was built anew would be a track more on the stack.
+
 // What a call asks, as far as it can be told before the old reservations are out: 1, 2, 3, 4 in this order.
 fn asked(
-    track: Track,
+    track: &Track,
     size: usize,
-    cycles: [Cycle; PLACES],
+    cycles: &[Cycle; PLACES],
     target: i32,
     short: bool,
     ok: bool,
 ) -> Result<(), Refusal>
-    ensures { told result ≡ refusal track size cycles target short ok true }
+    ensures { told result ≡ refusal track.now size cycles.now target short ok true }
 {
     ask(size == PLACES, Refusal::NotAList)?;
     ask(is_target(target), Refusal::NoTarget)?;
     ask(short, Refusal::TooMany)?;
-    ask(track_ok(track) & ok, Refusal::OutOfRange)?;
-    let own = cycles_of(track, cycles);
+    ask(track_ok(*track) & ok, Refusal::OutOfRange)?;
+    let own = cycles_of(*track, *cycles);
     ask(
         lent_alone(track.notes, track.waves, track.sines, own),
         Refusal::OutOfRange,
     )
 }
 
-// The track and the table without the target of key `k`, of whatever kind. The cycles' array is a local, since the check takes no
-// array straight from a field.
-fn cleared(mut track: Track, cycles: [Cycle; PLACES], k: usize) -> Kept
-    requires { ok_lent track cycles ≡ true }
-    ensures { result ≡ cleared track cycles k }
+// An answer with these tables for the track's own. The tables are made first, each of its own part, so that the track is copied once.
+#[inline(always)]
+fn with_tables(
+    left: &mut Kept,
+    notes: NoteTable,
+    waves: WaveTable,
+    sines: SineTable,
+    own: CycleTable,
+)
+    requires { left.old.code ≡ 0 }
+    ensures { left.new ≡ answer 0 (with_tables left.old.track notes waves sines own.count) own.items }
 {
-    let own = cycles_of(track, cycles).without(k);
-    track.notes = track.notes.without(k);
-    track.waves = track.waves.without(k);
-    track.sines = track.sines.without(k);
-    track.cycles = own.count;
+    left.track.notes = notes;
+    left.track.waves = waves;
+    left.track.sines = sines;
+    left.track.cycles = own.count;
+    // An array goes from one struct to another by a variable: the check covers no other way.
     let items = own.items;
-    Kept {
-        code: 0,
-        track,
-        cycles: items,
-    }
+    left.cycles = items;
+}
+
+// The track and the table without the target of key `k`, of whatever kind.
+#[inline(always)]
+fn cleared(left: &mut Kept, k: usize)
+    requires code { left.old.code ≡ 0 }
+    requires lent { ok_lent left.old.track left.old.cycles ≡ true }
+    ensures { left.new ≡ cleared left.old.track left.old.cycles k }
+{
+    let own = cycles_of(left.track, left.cycles).without(k);
+    let notes = left.track.notes.without(k);
+    let waves = left.track.waves.without(k);
+    let sines = left.track.sines.without(k);
+    with_tables(left, notes, waves, sines, own);
 }
 
 // What a call leaves that puts nothing: the target's old entries go, where nothing is refused.
-fn freed(
-    track: Track,
-    size: usize,
-    cycles: [Cycle; PLACES],
-    target: i32,
-    short: bool,
-    ok: bool,
-) -> Kept
-    ensures { result ≡ freed track size cycles target short ok }
+#[inline(always)]
+fn freed(mut left: Kept, size: usize, target: i32, short: bool, ok: bool) -> Kept
+    requires { left.code ≡ 0 }
+    ensures { result ≡ freed left.track size left.cycles target short ok }
 {
-    if let Err(refusal) = asked(track, size, cycles, target, short, ok) {
-        return Kept {
-            code: refusal.number(),
-            track,
-            cycles,
-        };
+    match asked(&left.track, size, &left.cycles, target, short, ok) {
+        Ok(()) => cleared(&mut left, key_of(target)),
+        Err(refusal) => left.code = refusal.number(),
     }
-    cleared(track, cycles, key_of(target))
+    left
 }
 
 // A kind of reservation, by its table: whether a place is left there, and the table with one more at its end.
@@ -97,13 +111,12 @@ trait Kind: Copy {
 
     ghost put: { Self → Kept → Kept };
 
-    fn room(kept: &Kept) -> bool
-        ensures { result ≡ room kept.now };
-
-    fn put(self, kept: &mut Kept)
-        requires free { kept.old.code ≡ 0 }
-        requires room { room kept.old ≡ true }
-        ensures { kept.new ≡ put self kept.old };
+    // The old entries of key `k` go and this one is put in, where its own table has a place, which is asked before the others
+    // are made.
+    fn put(self, left: &mut Kept, k: usize)
+        requires code { left.old.code ≡ 0 }
+        requires lent { ok_lent left.old.track left.old.cycles ≡ true }
+        ensures { left.new ≡ placed left.old.track left.old.cycles room (put self) (cleared left.old.track left.old.cycles k) };
 }
 
 impl Kind for OnNoteValues {
@@ -111,12 +124,16 @@ impl Kind for OnNoteValues {
 
     ghost put = { with_note };
 
-    fn room(kept: &Kept) -> bool {
-        kept.track.notes.count < PLACES
-    }
-
-    fn put(self, kept: &mut Kept) {
-        kept.track.notes = kept.track.notes.with(self);
+    fn put(self, left: &mut Kept, k: usize) {
+        let notes = left.track.notes.without(k);
+        if PLACES <= notes.count {
+            left.code = Refusal::NoPlace.number();
+        } else {
+            let own = cycles_of(left.track, left.cycles).without(k);
+            let waves = left.track.waves.without(k);
+            let sines = left.track.sines.without(k);
+            with_tables(left, notes.with(self), waves, sines, own);
+        }
     }
 }
 
@@ -125,12 +142,16 @@ impl Kind for OnNoteWave {
 
     ghost put = { with_wave };
 
-    fn room(kept: &Kept) -> bool {
-        kept.track.waves.count < PLACES
-    }
-
-    fn put(self, kept: &mut Kept) {
-        kept.track.waves = kept.track.waves.with(self);
+    fn put(self, left: &mut Kept, k: usize) {
+        let waves = left.track.waves.without(k);
+        if PLACES <= waves.count {
+            left.code = Refusal::NoPlace.number();
+        } else {
+            let own = cycles_of(left.track, left.cycles).without(k);
+            let notes = left.track.notes.without(k);
+            let sines = left.track.sines.without(k);
+            with_tables(left, notes, waves.with(self), sines, own);
+        }
     }
 }
 
@@ -139,59 +160,48 @@ impl Kind for OnNoteSine {
 
     ghost put = { with_sine };
 
-    fn room(kept: &Kept) -> bool {
-        kept.track.sines.count < PLACES
-    }
-
-    fn put(self, kept: &mut Kept) {
-        kept.track.sines = kept.track.sines.with(self);
+    fn put(self, left: &mut Kept, k: usize) {
+        let sines = left.track.sines.without(k);
+        if PLACES <= sines.count {
+            left.code = Refusal::NoPlace.number();
+        } else {
+            let own = cycles_of(left.track, left.cycles).without(k);
+            let notes = left.track.notes.without(k);
+            let waves = left.track.waves.without(k);
+            with_tables(left, notes, waves, sines.with(self), own);
+        }
     }
 }
 
-// A cycle stands in the lent table, whose records are a local on their way, as in `cleared`.
+// A cycle stands in the lent table.
 impl Kind for Cycle {
     ghost room = { cycle_room };
 
     ghost put = { with_cycle };
 
-    fn room(kept: &Kept) -> bool {
-        kept.track.cycles < PLACES
-    }
-
-    fn put(self, kept: &mut Kept) {
-        let items = kept.cycles;
-        let count = kept.track.cycles;
-        let own = CycleTable { count, items }.with(self);
-        let items = own.items;
-        kept.track.cycles = own.count;
-        kept.cycles = items;
+    fn put(self, left: &mut Kept, k: usize) {
+        let own = cycles_of(left.track, left.cycles).without(k);
+        if PLACES <= own.count {
+            left.code = Refusal::NoPlace.number();
+        } else {
+            let notes = left.track.notes.without(k);
+            let waves = left.track.waves.without(k);
+            let sines = left.track.sines.without(k);
+            with_tables(left, notes, waves, sines, own.with(self));
+        }
     }
 }
 
 // What a setter leaves, whatever it sets: the target's old entries go, then a place is asked for, and one more is put there.
-fn set<T: Kind>(
-    track: Track,
-    size: usize,
-    cycles: [Cycle; PLACES],
-    target: i32,
-    short: bool,
-    ok: bool,
-    e: T,
-) -> Kept
-    ensures { result ≡ reserving track size cycles target short ok T.room (T.put e) }
+#[inline(always)]
+fn set<T: Kind>(mut left: Kept, size: usize, target: i32, short: bool, ok: bool, e: T) -> Kept
+    requires { left.code ≡ 0 }
+    ensures { result ≡ reserving left.track size left.cycles target short ok T.room (T.put e) }
 {
-    let mut left = freed(track, size, cycles, target, short, ok);
-    if left.code != 0 {
-        return left;
+    match asked(&left.track, size, &left.cycles, target, short, ok) {
+        Ok(()) => e.put(&mut left, key_of(target)),
+        Err(refusal) => left.code = refusal.number(),
     }
-    if !T::room(&left) {
-        return Kept {
-            code: Refusal::NoPlace.number(),
-            track,
-            cycles,
-        };
-    }
-    e.put(&mut left);
     left
 }
 
@@ -199,7 +209,17 @@ fn set<T: Kind>(
 pub fn remove_reserve(track: Track, size: usize, cycles: [Cycle; PLACES], target: i32) -> Kept
     ensures { result ≡ remove_reserve track size cycles target }
 {
-    freed(track, size, cycles, target, true, true)
+    freed(
+        Kept {
+            code: 0,
+            track,
+            cycles,
+        },
+        size,
+        target,
+        true,
+        true,
+    )
 }
 
 // Whether the lists of a target's notes go round.
@@ -228,7 +248,18 @@ pub fn set_on_note(
         cycling: repeat_of(options, target),
         values,
     };
-    set(track, size, cycles, target, listed.is_ok(), note_ok(e), e)
+    set(
+        Kept {
+            code: 0,
+            track,
+            cycles,
+        },
+        size,
+        target,
+        listed.is_ok(),
+        note_ok(e),
+        e,
+    )
 }
 
 // Reserves a curve for each note of a target: low, high and length by threes, used as it is (`NORMAL`), stretched to the note
@@ -250,7 +281,18 @@ pub fn set_on_note_wave(
         mode,
         values,
     };
-    set(track, size, cycles, target, listed.is_ok(), wave_ok(e), e)
+    set(
+        Kept {
+            code: 0,
+            track,
+            cycles,
+        },
+        size,
+        target,
+        listed.is_ok(),
+        wave_ok(e),
+        e,
+    )
 }
 
 // Reserves a sine for each note of a target, which the sine has to name. Refuses 1, 2, 4, 6.
@@ -264,7 +306,18 @@ pub fn set_on_note_sine(
     ensures { result ≡ set_on_note_sine track size cycles target sine }
 {
     let ok = sine_ok(sine) & (key_of(sine.target) == key_of(target));
-    set(track, size, cycles, target, true, ok, sine)
+    set(
+        Kept {
+            code: 0,
+            track,
+            cycles,
+        },
+        size,
+        target,
+        true,
+        ok,
+        sine,
+    )
 }
 
 // Reserves a target's values at every `length` of time, from the track's time on; with a length of 0 or less, or no values,
@@ -284,7 +337,17 @@ pub fn set_on_cycle(
     let short = listed.is_ok();
     let ok = is_length(length) & numbers_ok(values);
     if (length <= 0) | (values.count == 0) {
-        return freed(track, size, cycles, target, short, ok);
+        return freed(
+            Kept {
+                code: 0,
+                track,
+                cycles,
+            },
+            size,
+            target,
+            short,
+            ok,
+        );
     }
     let e = Cycle {
         target,
@@ -293,7 +356,18 @@ pub fn set_on_cycle(
         index: 0,
         values,
     };
-    set(track, size, cycles, target, short, ok, e)
+    set(
+        Kept {
+            code: 0,
+            track,
+            cycles,
+        },
+        size,
+        target,
+        short,
+        ok,
+        e,
+    )
 }
 
 // The older calls. `remove_reserve` of a controller. Refuses 1, 2, 4.
@@ -354,7 +428,7 @@ pub fn remove_cc_on_note(mut track: Track, number: i32) -> TrackAnswer
     ensures { result ≡ remove_cc_on_note track number }
 {
     let target = cc_target(number);
-    if let Err(refusal) = ask_target(target, track_ok(track)) {
+    if let Err(refusal) = ask_track(&track, target, true) {
         return TrackAnswer {
             code: refusal.number(),
             track,
@@ -370,7 +444,7 @@ pub fn remove_cc_on_note_wave(mut track: Track, number: i32) -> TrackAnswer
     ensures { result ≡ remove_cc_on_note_wave track number }
 {
     let target = cc_target(number);
-    if let Err(refusal) = ask_target(target, track_ok(track)) {
+    if let Err(refusal) = ask_track(&track, target, true) {
         return TrackAnswer {
             code: refusal.number(),
             track,

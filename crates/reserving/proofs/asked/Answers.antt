@@ -49,15 +49,15 @@ returns-in_err-ask-4 c =
     let s = ask-ok _ _ c.ask.ensures c.in_ok-ask.was in
     let t = sym (is_at w32 {z = c.args.target} is_target c.ranges.target.sfits c.is_target.ensures) ∙ ask-ok _ _ c.ask-2.ensures c.in_ok-ask-2.was in
     let l = ask-ok _ _ c.ask-3.ensures c.in_ok-ask-3.was in
-    let u = untracked a.track a.cycles true a.ok (sym (both c.track_ok.ensures refl) ∙ e.0) in
+    let u = untracked a.track.now a.cycles.now true a.ok (sym (both c.track_ok.ensures refl) ∙ e.0) in
     rw (r, e.1, s, t, l, u)
 
 pub lent_alone-requires : goal.lent_alone-requires
 lent_alone-requires c =
     let a = c.args in
     let k = sym (both c.track_ok.ensures refl) ∙ ask-ok _ _ c.ask-4.ensures c.in_ok-ask-4.was in
-    let t = tracked a.track a.cycles true a.ok k in
-    (notes-few a.track t, waves-few a.track t, sines-few a.track t)
+    let t = tracked a.track.now a.cycles.now true a.ok k in
+    (notes-few a.track.now t, waves-few a.track.now t, sines-few a.track.now t)
 
 pub returns : goal.returns
 unfolding refusal
@@ -69,6 +69,6 @@ returns c =
     let k = sym (both c.track_ok.ensures refl) ∙ ask-ok _ _ c.ask-4.ensures c.in_ok-ask-4.was in
     let w =
     c.lent_alone.ensures
-    ∙ ap (λ (t : CycleTable). ok_cycles t && lone a.track.notes a.track.waves a.track.sines t) c.cycles_of-own.ensures
-    ∙ sym (behind a.track a.cycles true a.ok k) in
+    ∙ ap (λ (t : CycleTable). ok_cycles t && lone a.track.now.notes a.track.now.waves a.track.now.sines t) c.cycles_of-own.ensures
+    ∙ sym (behind a.track.now a.cycles.now true a.ok k) in
     ap told c.ask-5.ensures ∙ told-asked _ _ ∙ rw (s, t, l, ← w)

@@ -7,23 +7,24 @@ use Rattle.reserving.specs.Clearing.{cleared}
 use Rattle.reserving.proofs.cleared.Goals as goal
 
 pub without-own-requires : goal.without-own-requires
-without-own-requires c = rw c.cycles_of.ensures (cycles-few _ _ c.requires)
+without-own-requires c = rw c.cycles_of.ensures (cycles-few _ _ c.requires.lent)
 
-pub without-track-requires : goal.without-track-requires
-without-track-requires c = notes-few _ _ c.requires
+pub without-notes-requires : goal.without-notes-requires
+without-notes-requires c = notes-few _ _ c.requires.lent
 
-pub without-track-requires-2 : goal.without-track-requires-2
-without-track-requires-2 c = waves-few _ _ c.requires
+pub without-waves-requires : goal.without-waves-requires
+without-waves-requires c = waves-few _ _ c.requires.lent
 
-pub without-track-requires-3 : goal.without-track-requires-3
-without-track-requires-3 c = sines-few _ _ c.requires
+pub without-sines-requires : goal.without-sines-requires
+without-sines-requires c = sines-few _ _ c.requires.lent
 
 pub returns : goal.returns
 unfolding cleared
 returns c =
-    rw (
-      c.without-track.ensures,
-      c.without-track-2.ensures,
-      c.without-track-3.ensures,
+    c.with_tables.ensures
+    ∙ rw (
+      c.without-notes.ensures,
+      c.without-waves.ensures,
+      c.without-sines.ensures,
       c.without-own.ensures ∙ ap (λ (t : CycleTable). cycles_without t c.args.k) c.cycles_of.ensures,
     )

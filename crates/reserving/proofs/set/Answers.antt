@@ -1,36 +1,35 @@
--- `set`: the old entries go, and then a place is asked for (Settling).
+-- `set`: what is asked, and then what the kind puts (Settling).
 use mathlib.Core.Path.{◌≡◌, sym, ap, ◌∙◌}
+use mathlib.Core.Bool.{true}
 use mir.Facts.{to_z-of_z}
 use lib.IntN.{ℤ}
-use Rattle.reserving.specs.Clearing.{freed}
-use Rattle.reserving.proofs.Settling.{passed_on, no_place, put_in, in-two}
+use Rattle.cycles.specs.Due.{key}
+use Rattle.numbers.specs.Refusals.{told}
+use Rattle.numbers.proofs.Asking.{some-number}
+use Rattle.reserving.specs.Clearing.{refusal}
+use Rattle.reserving.proofs.Refusing.{usable}
+use Rattle.reserving.proofs.Settling.{turned-away, settled}
 use Rattle.reserving.proofs.set.Given.{Over}
-use Rattle.reserving.proofs.set.Goals.{After-freed-left}
+use Rattle.reserving.proofs.set.Goals.{After-asked}
 use Rattle.reserving.proofs.set.Goals as goal
 
-first : (g : Over) (c : After-freed-left g) → c.freed-left.result ≡ freed c.args.track c.args.size c.args.cycles c.args.target c.args.short c.args.ok
-first g c = c.freed-left.ensures ∙ ap (λ (z : ℤ). freed c.args.track c.args.size c.args.cycles z c.args.short c.args.ok) (to_z-of_z c.ranges.target)
+code_is : (g : Over) (c : After-asked g) → told c.asked.result ≡ refusal c.args.left.track c.args.size c.args.left.cycles c.args.target c.args.short c.args.ok true
+code_is g c =
+    c.asked.ensures
+    ∙ ap (λ (z : ℤ). refusal c.args.left.track c.args.size c.args.left.cycles z c.args.short c.args.ok true) (to_z-of_z c.ranges.target)
 
-pub returns-then-left-ne0 : goal.returns-then-left-ne0
-returns-then-left-ne0 g c =
-    let a = c.args in
-    let room = g.T.Kind.room in
-    let put = g.T.Kind.put a.e in
-    in-two a.track a.size a.cycles a.target a.short a.ok room put (first g (goal.at.returns-then-left-ne0 g c).After-freed-left)
-    (passed_on a.track a.cycles room put c.freed-left.result c.if-left-ne0.true)
+pub put-requires-clause-lent : goal.put-requires-clause-lent
+put-requires-clause-lent g c = usable _ _ _ _ _ _ _ (sym (code_is g (goal.at.put-requires-clause-lent g c).After-asked) ∙ ap told c.in-Ok.is)
 
-pub returns-then-not-room : goal.returns-then-not-room
-returns-then-not-room g c =
+pub returns-in-Ok : goal.returns-in-Ok
+returns-in-Ok g c =
     let a = c.args in
-    let room = g.T.Kind.room in
-    let put = g.T.Kind.put a.e in
-    rw c.number.ensures (in-two a.track a.size a.cycles a.target a.short a.ok room put (first g (goal.at.returns-then-not-room g c).After-freed-left)
-    (no_place a.track a.cycles room put c.freed-left.result c.if-left-ne0.false (sym c.room.ensures ∙ c.if-not-room.true)))
+    settled a.left.track a.size a.left.cycles a.target a.short a.ok g.T.Kind.room (g.T.Kind.put a.e)
+    (code_is g (goal.at.returns-in-Ok g c).After-asked) (ap told c.in-Ok.is)
+    (rw (c.key_of.ensures ∙ ap key (to_z-of_z c.ranges.target)) at c.put.ensures)
 
-pub returns : goal.returns
-returns g c =
+pub returns-in-Err : goal.returns-in-Err
+returns-in-Err g c =
     let a = c.args in
-    let room = g.T.Kind.room in
-    let put = g.T.Kind.put a.e in
-    in-two a.track a.size a.cycles a.target a.short a.ok room put (first g (goal.at.returns g c).After-freed-left)
-    (c.put.ensures ∙ put_in a.track a.cycles room put c.freed-left.result c.if-left-ne0.false (sym c.room.ensures ∙ c.if-not-room.false))
+    rw c.number.ensures (turned-away a.left.track a.size a.left.cycles a.target a.short a.ok g.T.Kind.room (g.T.Kind.put a.e)
+    (sym (ap told c.in-Err.is) ∙ code_is g (goal.at.returns-in-Err g c).After-asked) (some-number c.in-Err.refusal))
