@@ -9,7 +9,7 @@ ghost use Rattle.numbers.specs.Limits.{places};
 ghost use Rattle.numbers.specs.Ranges.{is_target};
 ghost use Rattle.numbers.specs.Refusals.{told};
 ghost use Rattle.eventlist.specs.Sound.{is_list};
-ghost use Rattle.drawing.specs.Options.{for_target, option_of, option_for, left, set_delay, set_random, set_range, clear_range, turned, notes_turned, set_repeat};
+ghost use Rattle.drawing.specs.Options.{for_target, target_refusal, option_of, option_for, left, set_delay, set_random, set_range, clear_range, turned, notes_turned, set_repeat};
 ghost use Rattle.drawing.specs.Frequency.{bend_freq, freq_for};
 ghost use Rattle.drawing.specs.Write.{write_of};
 ghost use Rattle.drawing.specs.Calls.{in_order, Drawn, on_time, cc_target, pb_target, sine_for, on_sine};
@@ -37,10 +37,13 @@ pub struct OptionAnswer {
 fn option_of(track: Track, target: i32) -> WriteOption
     ensures { result ≡ option_of track target }
 {
-    track.options[key_of(target)]
+    // A part of a track is a local first: read in its place, the compiled code copies the whole track.
+    let options = track.options;
+    options[key_of(target)]
 }
 
 // What a call on a target's option or reservations asks: the target, and then the numbers, of which `well` speaks.
+#[inline(always)]
 pub fn ask_target(target: i32, well: bool) -> Result<(), Refusal>
     ensures { told result ≡ for_target target well }
 {
@@ -48,11 +51,21 @@ pub fn ask_target(target: i32, well: bool) -> Result<(), Refusal>
     ask(well, Refusal::OutOfRange)
 }
 
+// The same of a call that is handed a track: a target that is none is told before the whole track is tested.
+#[inline(always)]
+#[tactic(auto, unfolding(crate::specs::Options::target_refusal))]
+pub fn ask_track(track: &Track, target: i32, allowed: bool) -> Result<(), Refusal>
+    ensures { told result ≡ target_refusal track.now target allowed }
+{
+    ask(is_target(target), Refusal::NoTarget)?;
+    ask_target(target, track_ok(*track) & allowed)
+}
+
 // What is set for a target. Refuses 2, 4.
 pub fn get_write_opt(track: Track, target: i32) -> OptionAnswer
     ensures { result ≡ option_for track target }
 {
-    match ask_target(target, track_ok(track)) {
+    match ask_track(&track, target, true) {
         Ok(()) => OptionAnswer {
             code: 0,
             option: option_of(track, target),
@@ -69,7 +82,7 @@ pub fn get_write_opt(track: Track, target: i32) -> OptionAnswer
 fn leave_option(mut track: Track, target: i32, option: WriteOption, allowed: bool) -> TrackAnswer
     ensures { result ≡ left track target option allowed }
 {
-    let asked = ask_target(target, track_ok(track) & allowed);
+    let asked = ask_track(&track, target, allowed);
     if asked.is_ok() {
         track.options[key_of(target)] = option;
     }

@@ -142,9 +142,10 @@ fn step(e: OnNoteValues, option: WriteOption, at: Onset, b: Budget) -> Stepped
     ensures { result ≡ step_of option at b e }
 {
     let w = offer_value(e, option, at, b);
+    let moved = advance(e);
     if w.fits {
         Stepped {
-            list: advance(e),
+            list: moved,
             budget: w.budget,
             event: Some(w.event),
         }
@@ -263,7 +264,10 @@ fn write_lists(
         start,
         channel: track.channel,
     };
-    let played = play_notes(track.notes, track.options, at, budget);
+    // Parts of a track are locals first: handed on from their place, the compiled code copies the whole track.
+    let notes = track.notes;
+    let options = track.options;
+    let played = play_notes(notes, options, at, budget);
     ask(played.made <= events.len() / WIDTH - count, Refusal::NoRoom)?;
     Ok(Listed {
         count: append_all(events, count, played.made, played.events),

@@ -5,11 +5,12 @@
 // writing one after the other would.
 #![tactic(auto)]
 
-ghost use Rattle.std.specs.Prelude.{◌≡◌, true, cond, ◌+◌, ◌≤◌, ◌<◌, ◌^◌, length};
+ghost use Rattle.std.specs.Prelude.{◌≡◌, true, cond, ◌&&◌, ◌+◌, ◌≤◌, ◌<◌, ◌^◌, length};
 ghost use Rattle.laws.specs.Integers.{cut};
 ghost use Rattle.budget.specs.declared.Budget.{Budget};
-ghost use Rattle.budget.specs.Budgets.{step_budget};
+ghost use Rattle.budget.specs.Budgets.{ok_budget, step_budget};
 ghost use Rattle.numbers.specs.Limits.{list_limit};
+ghost use Rattle.numbers.specs.Ranges.{is_time};
 ghost use Rattle.numbers.specs.Refusals.{told};
 ghost use Rattle.counted.specs.Numbers.{shown};
 ghost use Rattle.sines.specs.Table.{quarter_table};
@@ -117,11 +118,13 @@ fn draft_at(track: Track, n: u64, b: Budget, i: usize) -> Draft
     requires { Held track × (i < track.waves.count + track.sines.count) × (b.maximum ≤ 2 ^ 26) }
     ensures { Drafts result (drawing_at track n i) b }
 {
-    let count = track.waves.count;
-    if i < count {
-        wave_draft(track, n, b, track.waves.items[i])
+    // Parts of a track are locals first: read in their place, the compiled code copies the whole track.
+    let waves = track.waves;
+    if i < waves.count {
+        wave_draft(track, n, b, waves.items[i])
     } else {
-        sine_draft(track, track.sines.items[i - count])
+        let sines = track.sines;
+        sine_draft(track, sines.items[i - waves.count])
     }
 }
 
@@ -248,13 +251,22 @@ fn write_all(
     add_all(track, n, b, events, cleared.left, &quarter)
 }
 
-// What a call asks before its events are looked at: the list, and the numbers, of which `usable` speaks for all but the events'.
+// What a call asks before its events are looked at: the list, and then the numbers, but for the events'.
 #[tactic(auto, unfolding(drawing::specs::Calls::in_order))]
-fn asked(usable: bool, events: &[i64], count: usize) -> Result<(), Refusal>
-    ensures { told result ≡ in_order (is_list events.now count) true true usable 0 }
+fn asked(
+    track: &Track,
+    start: i64,
+    budget: Budget,
+    events: &[i64],
+    count: usize,
+) -> Result<(), Refusal>
+    ensures { told result ≡ in_order (is_list events.now count) true true (is_time start && ok_track track.now && ok_budget budget) 0 }
 {
     ask(list_ok(events, count), Refusal::NotAList)?;
-    ask(usable, Refusal::OutOfRange)
+    ask(
+        is_time(start) & track_ok(*track) & budget_ok(budget),
+        Refusal::OutOfRange,
+    )
 }
 
 // Writes the waves and then the sines that are reserved for the track's notes, over a note from `start` to the track's time;
@@ -271,8 +283,7 @@ pub fn write_cc_on_note_wave(
     ensures { (result ≡ note_written (length store.now) track start budget events.old count)
         × (events.new ≡ note_left (length store.now) track start budget events.old count) }
 {
-    let usable = is_time(start) & track_ok(track) & budget_ok(budget);
-    if let Err(refusal) = asked(usable, events, count) {
+    if let Err(refusal) = asked(&track, start, budget, events, count) {
         return Outcome {
             code: refusal.number(),
             count,

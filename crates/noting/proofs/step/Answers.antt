@@ -4,7 +4,7 @@ use Rattle.noting.proofs.step.Goals as goal
 
 pub returns-then-w : goal.returns-then-w
 unfolding step_of
-returns-then-w c = rw (← c.offer_value-w.ensures, c.if-w.true, c.advance.ensures)
+returns-then-w c = rw (← c.offer_value-w.ensures, c.if-w.true, c.advance-moved.ensures)
 
 pub returns-else-w : goal.returns-else-w
 unfolding step_of

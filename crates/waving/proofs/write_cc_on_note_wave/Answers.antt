@@ -66,14 +66,11 @@ module _ (c : After-asked) where
   abbrev three : Bool
   three = is_time c.args.start && ok_track c.args.track && ok_budget c.args.budget
 
-  asked : (c.is_time.result && c.track_ok.result && c.budget_ok.result) ≡ three
-  asked = both (both (is_at w64 is_time c.ranges.start.sfits c.is_time.ensures) c.track_ok.ensures) c.budget_ok.ensures
-
-  in-turn : in_order (is_list l c.args.count) true true (c.is_time.result && c.track_ok.result && c.budget_ok.result) 0 ≡ in_order (is_list l c.args.count) true true three 0
-  in-turn = ap (λ (t : Bool). in_order (is_list l c.args.count) true true t 0) asked
+  asked : told c.asked.result ≡ in_order (is_list l c.args.count) true true three 0
+  asked = rw (to_z-of_z c.ranges.start) at c.asked.ensures
 
   past : {u : Unit} → c.asked.result ≡ Ok u → Passed (is_list l c.args.count) true true three
-  past e = passed_all (is_list l c.args.count) true true three (sym in-turn ∙ sym c.asked.ensures ∙ ap told e)
+  past e = passed_all (is_list l c.args.count) true true three (sym asked ∙ ap told e)
 
   -- past it
   module _ (held : three ≡ true) where
@@ -115,7 +112,7 @@ module _ (c : After-asked) where
 pub returns-in-Err : goal.returns-in-Err
 returns-in-Err c =
     let d = (goal.at.returns-in-Err c).After-asked in
-    let e = sym (ap told c.in-Err.is) ∙ c.asked.ensures ∙ in-turn d in
+    let e = sym (ap told c.in-Err.is) ∙ asked d in
     let q = refused-first (bytes d) c.args.track c.args.start c.args.budget (l d) c.args.count e (some-number c.in-Err.refusal) in
     rw c.number.ensures (rw (q, ne_eqb (number_of c.in-Err.refusal) 0 (some-number c.in-Err.refusal)), rw (q, ne_eqb (number_of c.in-Err.refusal) 0 (some-number c.in-Err.refusal)))
 
