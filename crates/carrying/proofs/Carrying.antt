@@ -22,8 +22,15 @@ use Rattle.state.specs.Calls.{set_cc_freq, set_pb_freq}
 use Rattle.reel.specs.declared.marks.Mark.{Mark}
 use Rattle.reel.specs.declared.records.Record.{Record}
 use Rattle.carrying.specs.declared.State.{State}
-use Rattle.std.specs.Prelude.{Result}
-use Rattle.carrying.specs.Carry.{second, after_first, both_freqs, Left, carried_as, carried}
+use Rattle.std.specs.Prelude.{Result, Ok, Err}
+use Rattle.carrying.specs.Carry.{carried_to, second, after_first, both_freqs, Left, carried_as, carried}
+
+-- a call's number is tested before the state is touched
+pub refuses : (n : ℕ) (s : State) → (n ≡ 0 → ⊥) → Err n ≡ carried_to n s
+refuses n s h = rw (ne_eqb n 0 h)
+
+pub goes-on : (n : ℕ) (s : State) → n ≡ 0 → Ok s ≡ carried_to n s
+goes-on n s h = rw (eq-eqb n 0 h)
 
 module _ (a : Track) (x y : ℤ) (t : TrackAnswer) (e : t ≡ set_cc_freq a x) where
   opened : after_first a y t ≡ both_freqs a x y

@@ -7,7 +7,7 @@ ghost use Rattle.numbers.specs.Limits.{list_limit};
 ghost use Rattle.drawing.specs.Calls.{draw_answer, draw_left, on_time};
 ghost use Rattle.reserving.specs.Setting.{set_on_cycle};
 ghost use Rattle.cutting.specs.Cuts.{cut_taken, cut_left, plain};
-ghost use Rattle.carrying.specs.Carry.{carried_to, make_track, make_budget, move_to, both_freqs, set_freqs, curve_of, drawn_to, kept_to, set_cycle, cycled_to, turn_answer, turn_list, cut_to, carried};
+ghost use Rattle.carrying.specs.Carry.{make_track, make_budget, move_to, both_freqs, set_freqs, curve_of, drawn_to, kept_to, set_cycle, cycled_to, turn_answer, turn_list, cut_to, carried};
 
 use budget::Budget;
 use cutting::play_from;
@@ -28,55 +28,42 @@ pub struct State {
     pub count: usize,
 }
 
-// The state after a call that was not refused, or the number that refused it: that of a public call's answer.
-fn carried_to(code: u32, state: State) -> Result<State, u32>
-    ensures { result ≡ carried_to code state }
-{
-    if code == 0 { Ok(state) } else { Err(code) }
-}
-
 // TK: a new track.
-fn make_track(state: State, r: Record) -> Result<State, u32>
+fn make_track(mut state: State, r: Record) -> Result<State, u32>
     ensures { result ≡ make_track state r }
 {
     let t = Track::new(r.x, r.y);
-    carried_to(
-        t.code,
-        State {
-            track: t.track,
-            ..state
-        },
-    )
+    if t.code != 0 {
+        return Err(t.code);
+    }
+    state.track = t.track;
+    Ok(state)
 }
 
 // MX: a new budget. A maximum below 0 has bits above every maximum, and is refused as one of those.
-fn make_budget(state: State, r: Record) -> Result<State, u32>
+fn make_budget(mut state: State, r: Record) -> Result<State, u32>
     ensures { result ≡ make_budget state r }
 {
     let maximum = text::bits_of(r.x);
     let seed = text::bits_of(r.y);
     let b = Budget::new(seed, maximum);
-    carried_to(
-        b.code,
-        State {
-            budget: b.budget,
-            ..state
-        },
-    )
+    if b.code != 0 {
+        return Err(b.code);
+    }
+    state.budget = b.budget;
+    Ok(state)
 }
 
 // TP: where the track stands.
-fn move_to(state: State, r: Record) -> Result<State, u32>
+fn move_to(mut state: State, r: Record) -> Result<State, u32>
     ensures { result ≡ move_to state r }
 {
     let t = set_timepos(state.track, widened(r.x));
-    carried_to(
-        t.code,
-        State {
-            track: t.track,
-            ..state
-        },
-    )
+    if t.code != 0 {
+        return Err(t.code);
+    }
+    state.track = t.track;
+    Ok(state)
 }
 
 // Both frequencies, or neither.
@@ -97,22 +84,20 @@ fn both_freqs(track: Track, controllers: i32, bends: i32) -> TrackAnswer
 }
 
 // FQ: both frequencies.
-fn set_freqs(state: State, r: Record) -> Result<State, u32>
+fn set_freqs(mut state: State, r: Record) -> Result<State, u32>
     ensures { result ≡ set_freqs state r }
 {
     let t = both_freqs(state.track, r.x, r.y);
-    carried_to(
-        t.code,
-        State {
-            track: t.track,
-            ..state
-        },
-    )
+    if t.code != 0 {
+        return Err(t.code);
+    }
+    state.track = t.track;
+    Ok(state)
 }
 
 // A curve of the first n of `items`, for a target.
 fn draw_first(
-    state: State,
+    mut state: State,
     target: i32,
     items: &[i32],
     n: usize,
@@ -131,14 +116,12 @@ fn draw_first(
         state.count,
         b"",
     );
-    carried_to(
-        o.code,
-        State {
-            budget: o.budget,
-            count: o.count,
-            ..state
-        },
-    )
+    if o.code != 0 {
+        return Err(o.code);
+    }
+    state.budget = o.budget;
+    state.count = o.count;
+    Ok(state)
 }
 
 // OT: a curve.
@@ -150,21 +133,25 @@ fn draw(state: State, r: Record, events: &mut [i64]) -> Result<State, u32>
 }
 
 // A cycle of the first n of `items`, for a target.
-fn keep_first(state: State, target: i32, len: i32, items: &[i32], n: usize) -> Result<State, u32>
+fn keep_first(
+    mut state: State,
+    target: i32,
+    len: i32,
+    items: &[i32],
+    n: usize,
+) -> Result<State, u32>
     requires { n ≤ length items.now }
     ensures { result ≡ kept_to state (set_on_cycle state.track 16 state.cycles target len (take n items.now)) }
 {
     let k = set_on_cycle(state.track, PLACES, state.cycles, target, len, &items[..n]);
     // An array goes from one struct to another by a variable: the check covers no other way.
     let cycles = k.cycles;
-    carried_to(
-        k.code,
-        State {
-            track: k.track,
-            cycles,
-            ..state
-        },
-    )
+    if k.code != 0 {
+        return Err(k.code);
+    }
+    state.track = k.track;
+    state.cycles = cycles;
+    Ok(state)
 }
 
 // CY: a cycle set.
@@ -176,7 +163,7 @@ fn set_cycle(state: State, r: Record) -> Result<State, u32>
 }
 
 // RC: the cycles' writes up to a time.
-fn turn(state: State, r: Record, events: &mut [i64]) -> Result<State, u32>
+fn turn(mut state: State, r: Record, events: &mut [i64]) -> Result<State, u32>
     ensures { (result ≡ cycled_to state (turn_answer state r events.old)) × (events.new ≡ turn_list state r events.old) }
 {
     let until = widened(r.x);
@@ -190,30 +177,26 @@ fn turn(state: State, r: Record, events: &mut [i64]) -> Result<State, u32>
         state.count,
     );
     let cycles = k.cycles;
-    carried_to(
-        k.code,
-        State {
-            cycles,
-            budget: k.budget,
-            count: k.count,
-            ..state
-        },
-    )
+    if k.code != 0 {
+        return Err(k.code);
+    }
+    state.cycles = cycles;
+    state.budget = k.budget;
+    state.count = k.count;
+    Ok(state)
 }
 
 // PF: the plain cut.
-fn cut(state: State, r: Record, events: &mut [i64]) -> Result<State, u32>
+fn cut(mut state: State, r: Record, events: &mut [i64]) -> Result<State, u32>
     ensures { (result ≡ cut_to state (cut_taken 0 events.old state.count (plain r.x))) × (events.new ≡ cut_left 0 events.old state.count (plain r.x)) }
 {
     let at = widened(r.x);
     let t = play_from(events, state.count, at, b"");
-    carried_to(
-        t.code,
-        State {
-            count: t.count,
-            ..state
-        },
-    )
+    if t.code != 0 {
+        return Err(t.code);
+    }
+    state.count = t.count;
+    Ok(state)
 }
 
 // Carries a record out that was read whole: the call that its mark names.

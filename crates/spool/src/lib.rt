@@ -63,14 +63,11 @@ fn begin() -> Run
 }
 
 // The run, over.
-fn refuse(run: Run, code: u32, end: usize) -> Run
-    ensures { result ≡ refused run code end }
+fn refuse(run: &mut Run, code: u32, end: usize)
+    ensures { run.new ≡ refused run.old code end }
 {
-    Run {
-        code,
-        at: end,
-        ..run
-    }
+    run.code = code;
+    run.at = end;
 }
 
 fn more_due(due: u32) -> u32
@@ -80,23 +77,21 @@ fn more_due(due: u32) -> u32
 }
 
 // The run past a record.
-fn pass_on(run: Run, next: usize, state: State) -> Run
-    requires { run.index < tape_limit }
-    ensures { result ≡ past run next state }
+fn pass_on(run: &mut Run, next: usize, state: State)
+    requires { run.old.index < tape_limit }
+    ensures { run.new ≡ past run.old next state }
 {
-    Run {
-        code: 0,
-        at: next,
-        index: run.index + 1,
-        due: more_due(run.due),
-        state,
-    }
+    run.code = 0;
+    run.at = next;
+    run.index += 1;
+    run.due = more_due(run.due);
+    run.state = state;
 }
 
 // One record.
-fn step(run: Run, tape: &[u8], events: &mut [i64]) -> Run
-    requires { (run.index ≤ run.at) × (run.at < length tape.now) × (length tape.now ≤ tape_limit) }
-    ensures { (result ≡ (step_of tape.now run events.old).run) × (events.new ≡ (step_of tape.now run events.old).events) }
+fn step(run: &mut Run, tape: &[u8], events: &mut [i64])
+    requires { (run.old.index ≤ run.old.at) × (run.old.at < length tape.now) × (length tape.now ≤ tape_limit) }
+    ensures { (run.new ≡ (step_of tape.now run.old events.old).run) × (events.new ≡ (step_of tape.now run.old events.old).events) }
 {
     match record_at(tape, run.at, run.due) {
         Err(refusal) => refuse(run, refusal.number(), tape.len()),
@@ -108,14 +103,13 @@ fn step(run: Run, tape: &[u8], events: &mut [i64]) -> Run
 }
 
 // The run at the tape's end: a TK or MX that is missing is missed here.
-fn end(run: Run, end: usize) -> Run
+fn end(mut run: Run, end: usize) -> Run
     ensures { result ≡ ended end run }
 {
     if (run.code == 0) & (run.due < 2) {
-        refuse(run, 8, end)
-    } else {
-        run
+        refuse(&mut run, 8, end);
     }
+    run
 }
 
 // Plays a whole tape on an empty list: `code` is 0, or the number that refused record `index`. A tape that is longer than
@@ -126,10 +120,11 @@ pub fn play(tape: &[u8], events: &mut [i64]) -> Run
     let n = tape.len();
     let mut run = begin();
     if TAPE_LIMIT < n {
-        return end(refuse(run, 8, n), n);
+        refuse(&mut run, 8, n);
+        return end(run, n);
     }
     while run.at < n {
-        run = step(run, tape, events);
+        step(&mut run, tape, events);
     }
     end(run, n)
 }

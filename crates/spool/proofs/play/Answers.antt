@@ -20,8 +20,8 @@ loop-run-init c =
     let a = c.args in
     (refl, rw c.begin-run.ensures (going_start a.tape.now (pass begun a.events.now) (omega arith)))
 
-pub step-run-requires : goal.step-run-requires
-step-run-requires c = (c.loop-run.invariant.1.sofar, c.loop-run-test.true, c.if-n-gt-TAPE_LIMIT.false)
+pub step-requires : goal.step-requires
+step-requires c = (c.loop-run.invariant.1.sofar, c.loop-run-test.true, c.if-n-gt-TAPE_LIMIT.false)
 
 pub loop-run-smaller : goal.loop-run-smaller
 loop-run-smaller c =
@@ -29,14 +29,14 @@ loop-run-smaller c =
     let a = c.args in
     let h = c.loop-run-test.true in
     let m = moves a.tape.now l.run l.events h in
-    omega (arith, m.0, ap (λ (x : Run). x.at) c.step-run.ensures.0, h)
+    omega (arith, m.0, ap (λ (x : Run). x.at) c.step.ensures.0, h)
 
 pub loop-run-preserved : goal.loop-run-preserved
 loop-run-preserved c =
     let l = c.loop-run in
     let a = c.args in
-    let t = c.step-run in
-    (refl, going_step a.tape.now (pass begun a.events.now) l.run l.events l.invariant.1 c.loop-run-test.true (pass t.result t.new.events) (joined t.ensures.0 t.ensures.1) t.auto.events)
+    let t = c.step in
+    (refl, going_step a.tape.now (pass begun a.events.now) l.run l.events l.invariant.1 c.loop-run-test.true (pass t.new.run t.new.events) (joined t.ensures.0 t.ensures.1) t.auto.events)
 
 pub shape_of-events : goal.shape_of-events
 shape_of-events c = c.loop-run.invariant.1.long
