@@ -170,7 +170,8 @@ def main():
             named |= known.named(known.records[crate, n]) if (crate, n) in known.records else {n}
         answer = re.search(rf'pub struct {re.escape(call.result or "")} \{{\n(.*?)\n\}}', '\n'.join(read(p) for c in os.listdir('crates') for p in files(f'crates/{c}/src', '.rt')), re.S)
         parts = set(re.findall(r'pub (\w+):', answer[1])) if answer else set()
-        numbered = 'code' in parts or call.result == 'u32' or 'said' in call.names
+        # the number of a refusal says of no call that it was refused
+        numbered = 'code' in parts or call.result == 'u32' and call.of != 'Refusal' or 'said' in call.names
         whole = [call.field(), kebab(call.of or '') + '-' + call.field()] + (['of-cycle'] if 'said' in call.names else [])
         refused = field_of(call, ('Refused', 'RefusedLent'), whole[:1] if call.of in OWN or not call.of else whole, named)
         if not refused:
@@ -181,7 +182,8 @@ def main():
         if not once:
             faults.append(f'{call.title()}: no theorem says that one outcome alone satisfies its contract')
         else:
-            path = f'{"own" if call.crate == "track" else call.crate}.{call.of + "." if call.of else ""}{call.name}'
+            module = '' if call.file == 'lib.rt' or call.crate == 'track' else call.file[:-len('.rt')] + '.'
+            path = f'{"own" if call.crate == "track" else call.crate}.{module}{call.of + "." if call.of else ""}{call.name}'
             statement = ' '.join(proofs['Once'].fields[proofs['Once'].find(call, whole[1:2] + whole[:1] if call.of not in OWN else whole[:1])].split())
             if statement != f'Once 𝓤 𝓛 {path}.ended ({path}.clauses 𝓛 mem run) ({path}.spec 𝓛 mem run)':
                 faults.append(f'{call.title()}: {once} is not over the contract of {path}')

@@ -26,7 +26,7 @@ const STORE: usize = 256;
 // `named` is the parameter that a call of family 4 named. `room` records are lent and `count` are in use. `extra` and
 // `odd` say how the list is lent wrongly: a count of room + extra, and so many numbers more than whole records. `split`
 // records stand in the second list.
-#[derive(Drop)]
+#[derive(Clone, Copy)]
 pub struct Desk {
     pub track: Track,
     pub cycles: [Cycle; PLACES],

@@ -1,3 +1,4 @@
 pub mod Turns
+pub mod Moving
 pub mod Stepping
 pub mod InPlace

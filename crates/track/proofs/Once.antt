@@ -284,6 +284,7 @@ module _ {M : Type 1} {𝓤 : Ura M} (𝓛 : Logic 𝓤) (mem : Memory → SProp
     pub cycle-none : Once 𝓤 𝓛 cycles.Cycle.none.ended (cycles.Cycle.none.clauses 𝓛 mem run) (cycles.Cycle.none.spec 𝓛 mem run)
     pub value-range : Once 𝓤 𝓛 numbers.value_range.ended (numbers.value_range.clauses 𝓛 mem run) (numbers.value_range.spec 𝓛 mem run)
     pub on-cycle-time-calc : Once 𝓤 𝓛 reserved.OnCycleTime.calc.ended (reserved.OnCycleTime.calc.clauses 𝓛 mem run) (reserved.OnCycleTime.calc.spec 𝓛 mem run)
+    pub refusal-number : Once 𝓤 𝓛 numbers.refusals.Refusal.number.ended (numbers.refusals.Refusal.number.clauses 𝓛 mem run) (numbers.refusals.Refusal.number.spec 𝓛 mem run)
     pub sine-type-from-i : Once 𝓤 𝓛 sines.SineType.from_i.ended (sines.SineType.from_i.clauses 𝓛 mem run) (sines.SineType.from_i.spec 𝓛 mem run)
 
   pub of-records : OfRecords
@@ -296,6 +297,7 @@ module _ {M : Type 1} {𝓤 : Ura M} (𝓛 : Logic 𝓤) (mem : Memory → SProp
         cycle-none = record { met = refl; once = λ o. same 𝓤 _ _ _ _ _ refl };
         value-range = record { met = refl; once = λ o. same 𝓤 _ _ _ _ _ refl };
         on-cycle-time-calc = record { met = refl; once = λ o. facts 𝓤 _ _ _ (λ p q. (said-once _ _ _ p q, refl)) };
+        refusal-number = record { met = refl; once = λ o. same 𝓤 _ _ _ _ _ refl };
         sine-type-from-i = record { met = refl; once = λ o. facts 𝓤 _ _ _ (λ p q. (kind-once _ _ _ p q, refl)) };
       }
 

@@ -51,9 +51,8 @@ pub use profile::{ProfileAnswer, check_profile, fit_profile};
 pub use reader::read_chunk;
 pub use sorting::events_sort;
 
-// ---- a number in a range
-use numbers::Refusal;
-pub use numbers::value_range;
+// ---- a number in a range, and why a call refuses
+pub use numbers::{Refusal, value_range};
 
 // ---- records of their own, with their methods
 pub use budget::{Budget, BudgetAnswer};
