@@ -326,10 +326,14 @@ fn last_of(s: Standing) -> Last
 }
 
 // Whether the event is a controller's before the cut.
+#[tactic(auto, unfolding(crate::specs::Cuts::folds, events::specs::Kinds::is_kind, laws::specs::Integers::inside))]
 fn is_control(e: Event, c: Cut) -> bool
     ensures { result ≡ folds control_change c.at e }
 {
-    (e.kind == CONTROL_CHANGE) & (e.time < c.at)
+    match Kind::try_from(e.kind) {
+        Ok(Kind::ControlChange) => e.time < c.at,
+        _ => false,
+    }
 }
 
 // No event that may be stored is before it.

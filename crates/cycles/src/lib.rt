@@ -172,10 +172,19 @@ pub fn step(c: Cycle, ask: Ask, b: Budget) -> Stepped
         value: i64::from(value_of(c)),
     };
     let wrote = values::one_value(w, b, o);
-    Stepped {
-        cycle: advance(c), // past a write that is lost, too
-        budget: wrote.budget,
-        event: if wrote.fits { Some(wrote.event) } else { None },
+    let next = advance(c);
+    if wrote.fits {
+        Stepped {
+            cycle: next,
+            budget: wrote.budget,
+            event: Some(wrote.event),
+        }
+    } else {
+        Stepped {
+            cycle: next, // past the write that is lost
+            budget: wrote.budget,
+            event: None,
+        }
     }
 }
 

@@ -57,9 +57,9 @@ one_value-wrote-requires c =
 pub returns-then-wrote : goal.returns-then-wrote
 unfolding step_of
 returns-then-wrote c =
-    rw (← wrote (goal.at.returns-then-wrote c).After-one_value-wrote, c.if-wrote.true) (left _ _ c.advance.ensures)
+    rw (← wrote (goal.at.returns-then-wrote c).After-one_value-wrote, c.if-wrote.true) (left _ _ c.advance-next.ensures)
 
 pub returns-else-wrote : goal.returns-else-wrote
 unfolding step_of
 returns-else-wrote c =
-    rw (← wrote (goal.at.returns-else-wrote c).After-one_value-wrote, c.if-wrote.false) (left _ _ c.advance.ensures)
+    rw (← wrote (goal.at.returns-else-wrote c).After-one_value-wrote, c.if-wrote.false) (left _ _ c.advance-next.ensures)
